@@ -8,8 +8,11 @@ use Rattle.program_words.specs.declared.words.ArgFault.{ArgFault}
 use Rattle.program_words.specs.declared.words.ArgFault.TheVariants.{BadArguments, NoMemory}
 use Rattle.program_words.specs.Grammar.{RunFiles, ReportFiles, Asked, to_replay, to_run, to_audit}
 use Rattle.program_words.specs.Grammar.{to_audit_chain, to_serve, to_seal, to_seal_chain, to_check}
-use Rattle.program_words.specs.Grammar.{to_report, to_usage, to_version, Refuses}
+use Rattle.program_words.specs.Grammar.{to_report, to_usage, to_version, Refuses, to_replay_next}
+use Rattle.program_words.specs.Grammar.{to_run_next, to_report_last}
+use Rattle.wall_policy.specs.Policy.{ChineseWall}
 use Rattle.program_commands.specs.Endings.{EndsSo}
+use Rattle.program_commands.specs.Running.{Runs}
 use Rattle.program_commands.specs.declared.earlier.Earlier.{Earlier}
 use Rattle.program_commands.specs.Continuing.{RunAfterEnds}
 use Rattle.program_commands.specs.Reporting.{ReportEnds}
@@ -18,7 +21,7 @@ use Rattle.program_line.specs.Kinds.{FileUse, used_file}
 use Rattle.program_line.specs.Performing.{RunsFiles, AreListed, EarlierUse}
 use Rattle.program_line.specs.Performing.{used_earlier, Causes, ReportsFiles, IsDone, Declines}
 use Rattle.program_line.specs.Performing.{refusal_ending}
-use Rattle.program_commands.proofs.ProgramCommandsLemmas.{kept_nowhere, unpaged}
+use Rattle.program_commands.proofs.ProgramCommandsLemmas.{kept_nowhere, unpaged, run_bookless}
 
 -- a device that is not opened has its path
 pub at_path : {F : Type 0} {file : Option F} {path want : Text}
@@ -33,7 +36,9 @@ refused_words kinds said BadArguments out err status is done =
     subst (λ (o : Option Asked). IsDone kinds o out err status) (sym is) (inl done)
 refused_words kinds None NoMemory out err status is done = inr done
 refused_words kinds (Some (to_replay files)) NoMemory out err status is done = inr done
+refused_words kinds (Some (to_replay_next files)) NoMemory out err status is done = inr done
 refused_words kinds (Some (to_run files)) NoMemory out err status is done = inr done
+refused_words kinds (Some (to_run_next files)) NoMemory out err status is done = inr done
 refused_words kinds (Some (to_audit files)) NoMemory out err status is done = inr done
 refused_words kinds (Some (to_audit_chain path)) NoMemory out err status is done = inr done
 refused_words kinds (Some (to_serve files)) NoMemory out err status is done = done
@@ -41,6 +46,7 @@ refused_words kinds (Some (to_seal files)) NoMemory out err status is done = inr
 refused_words kinds (Some (to_seal_chain path)) NoMemory out err status is done = done
 refused_words kinds (Some (to_check files)) NoMemory out err status is done = inr done
 refused_words kinds (Some (to_report files)) NoMemory out err status is done = inr done
+refused_words kinds (Some (to_report_last files)) NoMemory out err status is done = inr done
 refused_words kinds (Some (to_usage command)) NoMemory out err status is done = inr done
 refused_words kinds (Some to_version) NoMemory out err status is done = inr done
 
@@ -124,3 +130,14 @@ module _ {P D S B W O A E : Type 0} (kinds : Kinds P D S B W) (files : ReportFil
       files.book (causes.of_second book.new) (used_file kinds.seconds book) out ended.0
       {A = A} {W = B} ended.1 in
       rw none (policy, earlier, book, tt, causes, (ended.0, report, ended.2, ended.3))
+
+-- a script that was run behind the runs of a chain, and whose book no file was named for
+pub next_bookless : {S O A B E : Type 0} (wall : ChineseWall) (script : Used S) (out : Used O)
+    (err : Used E) (status : ℕ) → EndsSo (Runs {B = A} wall script out None) err status →
+    EndsSo (Runs {B = B} wall script out None) err status
+next_bookless {A = A} {B = B} wall script out err status ended = (
+  ended.0,
+  run_bookless A B wall script out ended.0 ended.1,
+  ended.2,
+  ended.3,
+)

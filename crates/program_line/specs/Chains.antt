@@ -2,6 +2,7 @@
 use Rattle.std.specs.Prelude.{◌≡◌, ◌⊎◌, ℕ, List, [], Some}
 use Rattle.std.specs.Str.{IsUtf8}
 use Rattle.clap.specs.Words.{Text}
+use Rattle.program_words.specs.Grammar.{NextFiles}
 use Rattle.hall_script.specs.Devices.{Used, IsUntouched}
 use Rattle.wall_policy.specs.Policy.{ChineseWall}
 use Rattle.chain_file.specs.Text.{Chain}
@@ -50,3 +51,17 @@ IsNotChained policies listed chain path err status =
     ⊎ ((file : Chain) × IsChainOf chain file × (policy : FileUse policies path)
     × HasNoNext listed.failures listed.bytes (IsAt listed) file (used_file policies policy) err
     status)
+
+-- ---- a script behind the runs of a chain
+
+-- this is the policy of the next run of the chain at the path of these files
+abbrev pub IsNextAt : {P D : Type 0} → FileKind P → FileKind D → NextFiles → ChineseWall → Type 0
+IsNextAt policies listed files wall = (chain : FileUse listed files.chain) × (file : Chain)
+    × (digest : List ℕ)
+    × IsChained policies listed (used_file listed chain) files.policy file digest wall
+
+-- there is none, and why is told
+abbrev pub HasNoNextAt : {P D E : Type 0} → FileKind P → FileKind D → NextFiles → Used E →
+    (status : ℕ) → Type 0
+HasNoNextAt policies listed files err status = (chain : FileUse listed files.chain)
+    × IsNotChained policies listed (used_file listed chain) files.policy err status

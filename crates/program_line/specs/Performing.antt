@@ -2,7 +2,7 @@
 use Rattle.std.specs.Prelude.{◌≡◌, ℕ, ◌⊎◌, List, [], ◌∷◌, map, Option, Some, None, option_map}
 use Rattle.std.specs.Prelude.{string_bytes, unwrap_or, Result, Ok, Err}
 use Rattle.clap.specs.Words.{Text}
-use Rattle.hall_script.specs.Devices.{Used, used, IsUntouched}
+use Rattle.hall_script.specs.Devices.{Used, IsUntouched}
 use Rattle.program_commands.specs.declared.earlier.Earlier.{Earlier}
 use Rattle.program_commands.specs.declared.ending.Ending.{Ending}
 use Rattle.program_commands.specs.declared.ending.Ending.TheVariants.{BadArguments, NoMemory}
@@ -12,17 +12,23 @@ use Rattle.program_words.specs.declared.words.ArgFault.TheVariants as refusals
 use Rattle.program_words.specs.Grammar.{Asked, to_replay, to_run, to_audit, to_serve, ReplayFiles}
 use Rattle.program_words.specs.Grammar.{RunFiles, AuditFiles, ServeFiles, SealFiles, to_seal}
 use Rattle.program_words.specs.Grammar.{ReportFiles, CheckFiles, to_report, to_check, to_usage}
-use Rattle.program_words.specs.Grammar.{to_version, to_audit_chain, to_seal_chain}
+use Rattle.program_words.specs.Grammar.{to_version, to_audit_chain, to_seal_chain, NextFiles}
+use Rattle.program_words.specs.Grammar.{to_replay_next, to_run_next, LastFiles, to_report_last}
 use Rattle.program_words.specs.Usage.{usage_of}
 use Rattle.program_words.specs.declared.usage.TheConstants.{VERSION}
 use Rattle.program_line.specs.declared.commands.LivePaths.{LivePaths}
 use Rattle.program_line.specs.declared.commands.Performed.{Performed}
 use Rattle.program_line.specs.declared.commands.Performed.TheVariants as performs
 use Rattle.program_line.specs.Kinds.{FileKind, Kinds, FileUse, used_file}
-use Rattle.program_line.specs.Chains.{AuditsChain}
+use Rattle.program_line.specs.Chains.{AuditsChain, IsNextAt, HasNoNextAt, HasNoChain, IsAt}
 use Rattle.program_line.specs.declared.serving.Outcome.{Outcome}
 use Rattle.program_line.specs.declared.serving.Outcome.TheVariants as outcomes
 use Rattle.wall_policy.specs.Policy.{ChineseWall}
+use Rattle.chain_file.specs.Text.{Chain}
+use Rattle.program_commands.specs.Replaying.{Replays}
+use Rattle.program_commands.specs.Running.{Runs}
+use Rattle.program_commands.specs.Chains.{IsChainOf}
+use Rattle.program_commands.specs.ChainReports.{ChainReported}
 use Rattle.program_commands.specs.Earlier.{EarlierBooks, earlier_books, IsWallAfter}
 use Rattle.program_commands.specs.Earlier.{IsNoWallAfter}
 use Rattle.program_commands.specs.Continuing.{ReplayAfterEnds, RunAfterEnds, AuditAfterEnds}
@@ -148,6 +154,38 @@ ChecksFiles {P} {D} kinds files out err status = (policy : FileUse kinds.policie
     (book_after causes.of_listed (used_earlier kinds.listed earlier)
     (used_if_any kinds.listed causes.of_second book)) out) err status
 
+-- A script of these files goes on behind the runs of a chain: there is no policy of the next run,
+-- which is told, and nothing else was written; or this was done of the script under that policy.
+-- Nothing is entered in the chain.
+abbrev pub GoesOnBehind : {P D S B W O E : Type 0}
+    → (does : ChineseWall → Used S → Used O → Option (Used B) → Ending → Type 0)
+    → Kinds P D S B W → NextFiles → Used O → Used E → (status : ℕ) → Type 0
+GoesOnBehind does kinds files out err status =
+    (HasNoNextAt kinds.policies kinds.listed files err status × IsUntouched out)
+    ⊎ ((wall : ChineseWall) × IsNextAt kinds.policies kinds.listed files wall
+    × (script : FileUse kinds.seconds files.script) × (book : BookUse kinds.books files.book)
+    × EndsSo (does wall (used_file kinds.seconds script) out
+    (used_book kinds.books files.book book)) err status)
+
+abbrev pub ReplaysNext : {P D S B W O E : Type 0} → Kinds P D S B W → NextFiles → Used O
+    → Used E → (status : ℕ) → Type 0
+ReplaysNext kinds files out err status = GoesOnBehind Replays kinds files out err status
+
+abbrev pub RunsNext : {P D S B W O E : Type 0} → Kinds P D S B W → NextFiles → Used O
+    → Used E → (status : ℕ) → Type 0
+RunsNext kinds files out err status = GoesOnBehind Runs kinds files out err status
+
+-- A report on the last run of the chain of these files, and its page, where one is asked for: there
+-- is no chain, which is told; or its runs were read from the files at the paths that it has.
+abbrev pub ReportsLast : {P D S B W O E : Type 0} → Kinds P D S B W → LastFiles → Used O
+    → Used E → (status : ℕ) → Type 0
+ReportsLast kinds files out err status = (chain : FileUse kinds.listed files.chain)
+    × (HasNoChain (used_file kinds.listed chain) out err status
+    ⊎ ((file : Chain) × IsChainOf (used_file kinds.listed chain) file
+    × ((page : BookUse kinds.books files.html)
+    × ChainReported kinds.listed.failures kinds.listed.bytes (IsAt kinds.listed) file out
+    (used_book kinds.books files.html page) err status)))
+
 -- nothing was done but to tell this ending
 abbrev pub Declines : {O E : Type 0} → Ending → Used O → Used E → (status : ℕ) → Type 0
 Declines ending out err status = EndsSo (λ e. (e ≡ ending) × IsUntouched out) err status
@@ -192,8 +230,12 @@ abbrev pub IsDone : {P D S B W O E : Type 0} → Kinds P D S B W → Option Aske
 IsDone kinds None out err status = OrNoMemory (Declines BadArguments) out err status
 IsDone kinds (Some (to_replay files)) out err status =
     OrNoMemory (ReplaysFiles kinds files) out err status
+IsDone kinds (Some (to_replay_next files)) out err status =
+    OrNoMemory (ReplaysNext kinds files) out err status
 IsDone kinds (Some (to_run files)) out err status =
     OrNoMemory (RunsFiles kinds files) out err status
+IsDone kinds (Some (to_run_next files)) out err status =
+    OrNoMemory (RunsNext kinds files) out err status
 IsDone kinds (Some (to_audit files)) out err status =
     OrNoMemory (AuditsFiles kinds files) out err status
 IsDone kinds (Some (to_audit_chain path)) out err status =
@@ -202,6 +244,8 @@ IsDone kinds (Some (to_seal files)) out err status =
     OrNoMemory (SealsFiles kinds files) out err status
 IsDone kinds (Some (to_report files)) out err status =
     OrNoMemory (ReportsFiles kinds files) out err status
+IsDone kinds (Some (to_report_last files)) out err status =
+    OrNoMemory (ReportsLast kinds files) out err status
 IsDone kinds (Some (to_check files)) out err status =
     OrNoMemory (ChecksFiles kinds files) out err status
 IsDone kinds (Some (to_usage command)) out err status =

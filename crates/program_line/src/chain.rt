@@ -3,19 +3,26 @@ ghost use Rattle.std.specs.Prelude.{◌≡◌, IfOk, IfErr, OnOk};
 ghost use Rattle.hall_script.specs.Devices.{used, IsUntouched};
 ghost use Rattle.program_commands.specs.Using.{out_stream, err_stream};
 ghost use Rattle.program_commands.specs.ChainWalls.{IsLastOnChain, HasNoLast};
-ghost use Rattle.program_line.specs.Kinds.{listed_kind, source_kind};
+ghost use Rattle.program_words.specs.Grammar.{next_files, last_files};
+ghost use Rattle.program_line.specs.Kinds.{listed_kind, source_kind, kinds_of};
 ghost use Rattle.program_line.specs.Chains.{IsAt, AuditsChain, IsChained, IsNotChained};
+ghost use Rattle.program_line.specs.Chains.{IsNextAt, HasNoNextAt};
+ghost use Rattle.program_line.specs.Performing.{ReplaysNext, RunsNext, ReportsLast};
 
-use crate::devices::{listed_at, unopened};
+use crate::devices::{CountedFiles, listed_at, unmade, unopened};
 use chain_file::ChainFile;
 use chain_runs::{FileSystem, Next};
 use program_commands::{
-    Streams, audit_chain, last_on_chain, next_on_chain, read_chain_file, tell_no_chain,
+    Streams, audit_chain, last_on_chain, next_on_chain, read_chain_file, replay_with, report_chain,
+    run_with, tell_no_chain,
 };
 use program_files::{Count, ListedFile};
+use program_words::{LastPaths, NextPaths};
 use std::alloc::Global;
 use std::rt::Files;
+use std::sync::Wait;
 use std::sync::ledger::Ledger;
+use std::thread::Threads;
 use wall_labels::{Sink, Source};
 use wall_policy::Policy;
 
@@ -136,4 +143,136 @@ pub fn last_policy<F: Files, E: Sink>(
         (used E.failures E.contents err.old err.new)) }
 {
     last_on_chain(alloc, file, &ByPath { files }, err)
+}
+
+// The policy of the next run of the chain at this path. (Nothing is entered in the chain, which is
+// let go.)
+fn next_policy<'a, F: Files, L: Ledger, E: Sink>(
+    alloc: Global,
+    files: &'a F,
+    paths: &NextPaths<'a>,
+    failures: Count<L>,
+    err: &mut E,
+) -> Result<Policy, u8>
+    ensures chained { let policies = source_kind {F = F} {L = L} {File = F.File} {Dir = F.Dir}
+        F.File.remaining failures in
+        let listed = listed_kind {F = F} {File = F.File} {Dir = F.Dir} in
+        IfOk result (IsNextAt policies listed (next_files paths.now)) }
+    ensures silent { OnOk result (IsUntouched (used E.failures E.contents err.old err.new)) }
+    ensures none { let policies = source_kind {F = F} {L = L} {File = F.File} {Dir = F.Dir}
+        F.File.remaining failures in
+        let listed = listed_kind {F = F} {File = F.File} {Dir = F.Dir} in
+        IfErr result (HasNoNextAt policies listed (next_files paths.now)
+        (used E.failures E.contents err.old err.new)) }
+{
+    let mut chain = listed_at(files, paths.chain);
+    let chained = chained_policy(alloc, files, &mut chain, paths.policy, failures, err);
+    drop(chain);
+    match chained {
+        Ok(Chained { file, next }) => {
+            drop(file);
+            Ok(next.policy)
+        }
+        Err(status) => Err(status),
+    }
+}
+
+/// Replays a script behind the runs of a chain, under the policy of its next run.
+pub(crate) fn replay_next<'a, F: Files, P: Ledger, S: Ledger, B: Ledger, O: Sink, E: Sink>(
+    alloc: Global,
+    files: CountedFiles<'a, F, P, S, B>,
+    paths: NextPaths<'a>,
+    streams: Streams<O, E>,
+) -> u8
+    ensures { let kinds = kinds_of F.File.remaining F.File.contents files.entry in
+        ReplaysNext kinds (next_files paths.entry)
+        (out_stream O.failures O.contents streams.entry streams.exit)
+        (err_stream E.failures E.contents streams.entry streams.exit)
+        result }
+{
+    let CountedFiles {
+        files,
+        policy,
+        second,
+        kept,
+    } = files;
+    let Streams { out, err } = streams;
+    let wall = match next_policy(alloc, files, &paths, policy, err) {
+        Ok(wall) => wall,
+        Err(status) => return status,
+    };
+    let mut script = unopened(files, paths.script, second);
+    let streams = Streams { out, err };
+    let Some(path) = paths.book else {
+        return replay_with::<_, _, _, O>(alloc, wall, &mut script, streams, None);
+    };
+    let mut book = unmade(files, path, kept);
+    replay_with(alloc, wall, &mut script, streams, Some(&mut book))
+}
+
+/// Runs a script behind the runs of a chain, under the policy of its next run.
+pub(crate) fn run_next<'a, R, F: Files, P: Ledger, S: Ledger, B: Ledger, O: Sink, E: Sink>(
+    rt: &R,
+    files: CountedFiles<'a, F, P, S, B>,
+    paths: NextPaths<'a>,
+    streams: Streams<O, E>,
+) -> u8
+where
+    R: AllocGlobal + Threads + Wait + Sync,
+    ensures { let kinds = kinds_of F.File.remaining F.File.contents files.entry in
+        RunsNext kinds (next_files paths.entry)
+        (out_stream O.failures O.contents streams.entry streams.exit)
+        (err_stream E.failures E.contents streams.entry streams.exit)
+        result }
+{
+    let alloc = rt.alloc();
+    let CountedFiles {
+        files,
+        policy,
+        second,
+        kept,
+    } = files;
+    let Streams { out, err } = streams;
+    let wall = match next_policy(alloc, files, &paths, policy, err) {
+        Ok(wall) => wall,
+        Err(status) => return status,
+    };
+    let mut script = unopened(files, paths.script, second);
+    let streams = Streams { out, err };
+    let Some(path) = paths.book else {
+        return run_with::<_, _, _, _, O>(rt, alloc, wall, &mut script, streams, None);
+    };
+    let mut book = unmade(files, path, kept);
+    run_with(rt, alloc, wall, &mut script, streams, Some(&mut book))
+}
+
+/// Reports on the last run of a chain.
+pub(crate) fn report_last<'a, F: Files, P: Ledger, S: Ledger, B: Ledger, O: Sink, E: Sink>(
+    alloc: Global,
+    files: CountedFiles<'a, F, P, S, B>,
+    paths: LastPaths<'a>,
+    streams: Streams<O, E>,
+) -> u8
+    ensures { let kinds = kinds_of F.File.remaining F.File.contents files.entry in
+        ReportsLast kinds (last_files paths.entry)
+        (out_stream O.failures O.contents streams.entry streams.exit)
+        (err_stream E.failures E.contents streams.entry streams.exit)
+        result }
+{
+    let CountedFiles { files, kept, .. } = files;
+    let Streams { out, err } = streams;
+    let mut chain = listed_at(files, paths.chain);
+    let file = match read_chain_file(alloc, &mut chain) {
+        Ok(file) => file,
+        Err(none) => return tell_no_chain(err, none),
+    };
+    let by_path = ByPath { files };
+    let streams = Streams { out, err };
+    match paths.html {
+        Some(path) => {
+            let mut page = unmade(files, path, kept);
+            report_chain(alloc, &file, &by_path, streams, Some(&mut page))
+        }
+        None => report_chain::<_, _, _, O>(alloc, &file, &by_path, streams, None),
+    }
 }

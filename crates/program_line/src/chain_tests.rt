@@ -1,5 +1,6 @@
-//! The audit of a chain, from its words to the files that it opens.
+//! What goes by a chain, from its words to the files that it opens.
 use crate::files_tests::{ALONE, Case, NONE, TO_SEAL, is_as_told, used};
+use std::process::{Abort, ExitCode};
 use std::test::Fail;
 
 const BOOK: &str = "book 1\npost 0 0 barrier gives 0 as none passed\nverdict 0 0 granted\nend 2\n";
@@ -85,5 +86,261 @@ fn a_seal_of_a_chain_is_handed_on(rt: HostRuntime) -> Result<(), Fail> {
     };
     let ended = used(&rt, &case, NONE)?;
     assert!(&rt; is_as_told(&ended, &case));
+    Ok(())
+}
+
+// One use behind a chain, which stands at `s`: what stands at `b`, what is written, on standard
+// error too, and kept, and the files that are opened.
+#[derive(Clone, Copy)]
+struct Behind {
+    words: &'static [&'static [u8]],
+    chain: &'static str,
+    second: &'static str,
+    out: &'static str,
+    err: &'static str,
+    kept: &'static str,
+    opened: &'static str,
+    status: u8,
+}
+
+const SCRIPT: &str = "post 0 0 barrier\ntake 0 0\n";
+
+// (What stands at `b` is no policy.)
+const REFUSED: Behind = Behind {
+    words: &[
+        b"consortium",
+        b"replay",
+        b"b",
+        b"e",
+        b"--chain",
+        b"s",
+        b"--book",
+        b"k",
+    ],
+    chain: CHAIN,
+    second: BOOK,
+    out: "",
+    err: "policy: NotToml\n",
+    kept: "",
+    opened: "s\nw\nb\nb\n",
+    status: 1,
+};
+
+const BEHINDS: &[Behind] = &[
+    Behind {
+        words: &[
+            b"consortium",
+            b"replay",
+            b"w",
+            b"b",
+            b"--chain",
+            b"s",
+            b"--book",
+            b"k",
+        ],
+        chain: "chain 1\n",
+        second: SCRIPT,
+        out: "posted 0\ndelivered none\n",
+        err: "",
+        kept: BOOK,
+        opened: "s\nw\nb\nk\n",
+        status: 0,
+    },
+    Behind {
+        words: &[
+            b"consortium",
+            b"run",
+            b"w",
+            b"--chain=s",
+            b"b",
+            b"--book",
+            b"k",
+        ],
+        chain: "chain 1\n",
+        second: SCRIPT,
+        out: "rank 0 p0\nposted 0\ndelivered none\n",
+        err: "",
+        kept: BOOK,
+        opened: "s\nw\nb\nk\n",
+        status: 0,
+    },
+    Behind {
+        words: &[
+            b"consortium",
+            b"replay",
+            b"w",
+            b"e",
+            b"--chain",
+            b"s",
+            b"--book",
+            b"k",
+        ],
+        chain: CHAIN,
+        second: BOOK,
+        out: "",
+        err: "",
+        kept: "book 1\nend 0\n",
+        opened: "s\nw\nb\nw\ne\nk\n",
+        status: 0,
+    },
+    Behind {
+        words: &[b"consortium", b"replay", b"--chain", b"s", b"w", b"e"],
+        chain: CHAIN,
+        second: BOOK,
+        out: "",
+        err: "",
+        kept: "",
+        opened: "s\nw\nb\nw\ne\n",
+        status: 0,
+    },
+    Behind {
+        words: &[b"consortium", b"run", b"w", b"e", b"--chain", b"s"],
+        chain: CHAIN,
+        second: BOOK,
+        out: "rank 0 p0\n",
+        err: "",
+        kept: "",
+        opened: "s\nw\nb\nw\ne\n",
+        status: 0,
+    },
+    REFUSED,
+    Behind {
+        words: &[
+            b"consortium",
+            b"run",
+            b"b",
+            b"e",
+            b"--chain",
+            b"s",
+            b"--book",
+            b"k",
+        ],
+        ..REFUSED
+    },
+    Behind {
+        words: &[
+            b"consortium",
+            b"replay",
+            b"w",
+            b"e",
+            b"--chain",
+            b"s",
+            b"--book",
+            b"k",
+        ],
+        chain: OPEN,
+        err: "chain: run 1 has not ended\n",
+        opened: "s\n",
+        status: 2,
+        ..REFUSED
+    },
+    Behind {
+        words: &[
+            b"consortium",
+            b"run",
+            b"w",
+            b"e",
+            b"--chain",
+            b"s",
+            b"--book",
+            b"k",
+        ],
+        chain: ODD,
+        err: "chain: run 1: policy: read fault\n",
+        opened: "s\n\n",
+        status: 2,
+        ..REFUSED
+    },
+    Behind {
+        words: &[
+            b"consortium",
+            b"replay",
+            b"w",
+            b"e",
+            b"--chain",
+            b"nope",
+            b"--book",
+            b"k",
+        ],
+        err: "read fault\n",
+        opened: "nope\n",
+        status: 3,
+        ..REFUSED
+    },
+    Behind {
+        words: &[b"consortium", b"report", b"--chain", b"s", b"--html", b"k"],
+        chain: OPEN,
+        err: "chain: run 1 has not ended\n",
+        opened: "s\n",
+        status: 2,
+        ..REFUSED
+    },
+    Behind {
+        words: &[b"consortium", b"report", b"--chain", b"s", b"--html", b"k"],
+        chain: "chain 1\n",
+        err: "chain: no run is under way\n",
+        opened: "s\n",
+        status: 2,
+        ..REFUSED
+    },
+    Behind {
+        words: &[b"consortium", b"report", b"--chain", b"s", b"--html", b"k"],
+        chain: ODD,
+        err: "chain: run 1: policy: read fault\n",
+        opened: "s\n\n",
+        status: 2,
+        ..REFUSED
+    },
+    Behind {
+        words: &[b"consortium", b"report", b"--chain", b"s", b"--html", b"k"],
+        second: SCRIPT,
+        err: "chain: run 1: book: line 1\n",
+        opened: "s\nw\nb\n",
+        status: 2,
+        ..REFUSED
+    },
+];
+
+fn case_behind<'a>(behind: &Behind) -> Case<'a> {
+    Case {
+        words: behind.words,
+        policy: ALONE.as_bytes(),
+        script: behind.chain.as_bytes(),
+        book: behind.second.as_bytes(),
+        out: behind.out.as_bytes(),
+        err: behind.err.as_bytes(),
+        kept: behind.kept.as_bytes(),
+        opened: behind.opened.as_bytes(),
+        status: behind.status,
+    }
+}
+
+#[test]
+fn scripts_go_on_behind_a_chain(rt: HostRuntime) -> Result<(), Fail> {
+    for behind in BEHINDS {
+        let case = case_behind(behind);
+        let ended = used(&rt, &case, NONE)?;
+        assert!(&rt; is_as_told(&ended, &case), "{}", behind.opened);
+    }
+    Ok(())
+}
+
+// What a report on the last run of a chain writes is what one on its book does.
+#[test]
+fn the_last_run_of_a_chain_is_reported_on(rt: HostRuntime) -> Result<(), Fail> {
+    let words: &[&[u8]] = &[b"consortium", b"report", b"w", b"b", b"--html", b"k"];
+    let case = Case {
+        words,
+        ..case_behind(&REFUSED)
+    };
+    let plain = used(&rt, &case, NONE)?;
+    assert!(&rt; plain.status == ExitCode::from(0) && plain.kept.ends_with(b"</html>\n"));
+    let words: &[&[u8]] = &[b"consortium", b"report", b"--chain", b"s", b"--html", b"k"];
+    let case = Case { words, ..case };
+    let last = used(&rt, &case, NONE)?;
+    assert!(&rt; last.status == ExitCode::from(0) && last.err.is_empty() && last.open == 0);
+    assert!(&rt; last.out.as_slice() == plain.out.as_slice());
+    assert!(&rt; last.kept.as_slice() == plain.kept.as_slice());
+    assert!(&rt; last.opened.as_slice() == b"s\nw\nb\nk\n".as_slice());
     Ok(())
 }

@@ -7,7 +7,7 @@ ghost use Rattle.program_line.specs.Kinds.{kinds_of};
 ghost use Rattle.program_line.specs.Performing.{ReplaysFiles, RunsFiles, AuditsFiles, SealsFiles};
 ghost use Rattle.program_line.specs.Performing.{Performs, OrNoMemory, live_files, refusal_ending};
 
-use crate::chain::audit_chain_at;
+use crate::chain::{audit_chain_at, replay_next, report_last, run_next};
 use crate::devices::{CountedFiles, listed, only_new, unmade, unopened};
 use crate::looking::{check_files, report_files, tell_usage, tell_version};
 use program_commands::{
@@ -77,7 +77,11 @@ where
         Ok(Command::Replay(paths)) => {
             Performed::Ended(replay_files(alloc, files, paths, streams))
         }
+        Ok(Command::ReplayNext(paths)) => {
+            Performed::Ended(replay_next(alloc, files, paths, streams))
+        }
         Ok(Command::Run(paths)) => Performed::Ended(run_files(rt, files, paths, streams)),
+        Ok(Command::RunNext(paths)) => Performed::Ended(run_next(rt, files, paths, streams)),
         Ok(Command::Audit(paths)) => Performed::Ended(audit_files(alloc, files, paths, streams)),
         Ok(Command::AuditChain(path)) => {
             let CountedFiles { files, .. } = files;
@@ -86,6 +90,9 @@ where
         Ok(Command::Seal(paths)) => Performed::Ended(seal_files(alloc, files, paths, streams)),
         Ok(Command::Report(paths)) => {
             Performed::Ended(report_files(alloc, files, paths, streams))
+        }
+        Ok(Command::ReportLast(paths)) => {
+            Performed::Ended(report_last(alloc, files, paths, streams))
         }
         Ok(Command::Check(paths)) => Performed::Ended(check_files(alloc, files, paths, streams)),
         Ok(Command::Usage(command)) => Performed::Ended(tell_usage(command, streams)),
