@@ -1,5 +1,5 @@
 //! Words of the command line.
-use program_words::{ArgFault, Command, VERSION, read_words, usage_text};
+use program_words::{ArgFault, Command, NextPaths, VERSION, read_words, usage_text};
 use std::alloc::Global;
 use std::process::Abort;
 use std::test::Fail;
@@ -27,6 +27,28 @@ const ASKED: &[(&[&str], &str)] = &[
     (&["audit", "--", "-w", "-b"], "audit -w -b"),
     (&["audit", "--chain", "c"], "audit-chain c"),
     (&["audit", "--chain=-c"], "audit-chain -c"),
+    (
+        &["replay", "w", "s", "--chain", "c"],
+        "replay-next w s none on c",
+    ),
+    (
+        &["replay", "--chain=c", "w", "--book", "b", "s"],
+        "replay-next w s b on c",
+    ),
+    (
+        &["replay", "c", "c", "--chain", "c"],
+        "replay-next c c none on c",
+    ),
+    (&["run", "w", "s", "--chain", "c"], "run-next w s none on c"),
+    (
+        &["run", "w", "--book=b", "s", "--chain", "c"],
+        "run-next w s b on c",
+    ),
+    (&["report", "--chain", "c"], "report-last none on c"),
+    (
+        &["report", "--html", "h", "--chain=c"],
+        "report-last h on c",
+    ),
     (&["serve", "w", "d"], "serve w d none"),
     (&["serve", "w", "d", "--book", "b"], "serve w d b"),
     (&["serve", "--book=b", "w", "d"], "serve w d b"),
@@ -168,7 +190,15 @@ const BAD: &[&[&str]] = &[
     &["audit", "w", "b", "--chain", "c"],
     &["audit", "--chain", "c", "--after", "x"],
     &["audit", "--chain", "c", "--chain", "c"],
-    &["replay", "w", "s", "--chain", "c"],
+    &["replay", "w", "s", "--chain"],
+    &["replay", "w", "--chain", "c"],
+    &["replay", "w", "s", "--chain", "c", "--chain", "c"],
+    &["replay", "w", "s", "--chain", "c", "--after", "x"],
+    &["replay", "w", "s", "--chain", "c", "--book", "c"],
+    &[
+        "run", "w", "s", "--after", "x", "--chain", "c", "--book", "b",
+    ],
+    &["run", "w", "s", "--book=c", "--chain=c"],
     &["--after", "x", "replay", "w", "s"],
     &["replay", "w", "s", "--after"],
     &["replay", "w", "s", "--after", "-x"],
@@ -218,7 +248,12 @@ const BAD_LATER: &[&[&str]] = &[
     ],
     &["serve", "w", "d", "--book", "b", "--chain"],
     &["serve", "w", "--chain", "c", "--book", "b"],
+    &["report", "--chain"],
+    &["report", "--chain", "c", "w"],
     &["report", "w", "b", "--chain", "c"],
+    &["report", "--chain", "c", "--after", "x"],
+    &["report", "--chain", "c", "--html", "c"],
+    &["report", "--chain", "c", "--book", "b"],
     &["serve", "w", "d", "b"],
     &["serve", "w", "d", "--book"],
     &["serve", "w", "d", "--book", "b", "--book", "c"],
@@ -261,6 +296,17 @@ const BAD_LATER: &[&[&str]] = &[
     &["seal", "--help"],
 ];
 
+// A script behind the runs of a chain.
+fn tell_next(text: &mut String, name: &str, paths: &NextPaths) -> Result<(), Fail> {
+    let book = paths.book.unwrap_or("none");
+    write!(
+        text,
+        "{name} {} {} {book} on {}",
+        paths.policy, paths.script, paths.chain
+    )?;
+    Ok(())
+}
+
 // A command that goes on after no earlier books.
 fn tell_plain(text: &mut String, command: &Command) -> Result<(), Fail> {
     match command {
@@ -269,6 +315,12 @@ fn tell_plain(text: &mut String, command: &Command) -> Result<(), Fail> {
             write!(text, "usage {command}")?;
         }
         Command::Version => text.push_str("version")?,
+        Command::ReplayNext(paths) => tell_next(text, "replay-next", paths)?,
+        Command::RunNext(paths) => tell_next(text, "run-next", paths)?,
+        Command::ReportLast(paths) => {
+            let html = paths.html.unwrap_or("none");
+            write!(text, "report-last {html} on {}", paths.chain)?;
+        }
         Command::AuditChain(chain) => write!(text, "audit-chain {chain}")?,
         Command::SealChain(chain) => write!(text, "seal-chain {chain}")?,
         _ => text.push_str("another")?,
