@@ -2,7 +2,7 @@
 
     from consortium import Process
 
-    with Process("/run/consortium", "a0", label="alpha") as process:
+    with Process("/run/consortium/bank", "a0", label="alpha") as process:
         total = process.world.Iallreduce([120], op="sum").wait()
 
 A process opens the pair of pipes that has its name, and speaks for it from then on. Communicators
