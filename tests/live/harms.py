@@ -159,6 +159,15 @@ def makes_noise(raw, _, board):
         board.begins()
 
 
+def asks_for_receipts(raw, _, board):
+    """Receipts behind one call, which no bound counts."""
+    while board.goes_on():
+        told = answered(raw, ["head"] * 100)
+        want((len(set(told)), told[0].split()[0]), (1, "head"), "the receipts behind one call")
+        board.made(100)
+        board.begins()
+
+
 def never_reads(raw, comm, board):
     """Asks for a wide delivery, and writes on: of nothing it reads a reply."""
     numbers = " ".join(["-9223372036854775808"] * 65_536)
@@ -302,6 +311,13 @@ def noise_beside(given):
     beside.end()
 
 
+def receipts_without_end(given):
+    """Receipts as fast as it can: no turn is taken by them, and no memory."""
+    beside = Beside(given, 5_000).harmed_by(asks_for_receipts)
+    beside.grew_by_at_most(1024)
+    beside.end()
+
+
 def replies_not_read(given):
     """A session that never reads, in the middle of a wide delivery."""
     beside = Beside(given, 1_000).harmed_by(never_reads)
@@ -371,5 +387,5 @@ def longest_books(given):
 
 TESTS = [request_never_taken, book_that_is_filled, no_room_is_left, disk_of_one, wide_instances,
          posts_ahead_of_all, wrong_first_posts, posts_that_are_denied, lines_that_are_long,
-         noise_beside, replies_not_read, line_that_is_half, member_that_leaves, calls_are_used_up,
-         longest_books]
+         noise_beside, receipts_without_end, replies_not_read, line_that_is_half, member_that_leaves,
+         calls_are_used_up, longest_books]

@@ -488,24 +488,36 @@ class Terminal:
             self.lines.append(read.rstrip("\n"))
 
     def replies(self):
-        words = ("info", "posted", "delivered", "left", "sound")
+        words = ("info", "posted", "delivered", "head", "left", "sound")
         return [line for line in self.lines if line.split(" ")[0] in words]
+
+
+def first_session(given):
+    """The section on the first session of docs/SERVE.md, for this program and a folder of its own."""
+    page = (TOP / "docs" / "SERVE.md").read_text(encoding="utf-8")
+    section = page[page.index("## A first session") : page.index("## Lines")]
+    built = "$PWD/crates/consortium/out/consortium"
+    want((section.count(built), section.count("/tmp/first") > 5), (1, True), "names on the page")
+    return section.replace(built, given.program).replace("/tmp/first", str(a_folder() / "first"))
+
+
+def blocks(section, kind):
+    return re.findall(f"```{kind}\n(.*?)```", section, re.DOTALL)
 
 
 def first_session_of_the_page(given):
     """The first session of docs/SERVE.md, in two shells, as it stands there."""
-    page = (TOP / "docs" / "SERVE.md").read_text(encoding="utf-8")
-    section = page[page.index("## A first session") : page.index("## Lines")]
-    folder, built = a_folder(), "$PWD/crates/consortium/out/consortium"
-    want((section.count(built), section.count("/tmp/first") > 5), (1, True), "names on the page")
-    section = section.replace(built, given.program).replace("/tmp/first", str(folder / "first"))
-    begin, first, second, leave, audit = re.findall("```sh\n(.*?)```", section, re.DOTALL)[:5]
+    section = first_session(given)
+    begin, first, second, head, leave, audit, digest = blocks(section, "sh")[:7]
+    receipt, told = (block.splitlines() for block in blocks(section, "text")[:2])
     one, two = Terminal(), Terminal()
     one.tell(begin + first)
     one.read_to("posted 0")
     two.tell(second)
     two.read_to("delivered [120 -7]")
     one.read_to("delivered none")
+    two.tell(head)
+    two.read_to(receipt[0])
     one.tell(leave)
     two.tell(leave)
     one.read_to("served 5 calls")
@@ -514,14 +526,31 @@ def first_session_of_the_page(given):
     one.read_to("sound 3")
     want(one.replies(), ["info size 2 rank 0", "posted 0", "delivered none", "left", "sound 3"],
          "replies in terminal 1")
-    want(two.replies(), ["posted 0", "delivered [120 -7]", "left"], "replies in terminal 2")
-    told = re.search("```text\n(.*?)```", section, re.DOTALL)[1].splitlines()
+    want(two.replies(), ["posted 0", "delivered [120 -7]", receipt[0], "left"],
+         "replies in terminal 2")
     events = [line for line in one.lines if line not in one.replies()]
     want(sorted(events), sorted(told), "events in terminal 1")
+    one.tell(digest)
+    one.read_to(f"{receipt[0].split()[2]}  -")
+
+
+def first_session_in_python(given):
+    """The same by the client, in place of terminal 2, as it stands there."""
+    section = first_session(given)
+    begin, first, _, _, leave = blocks(section, "sh")[:5]
+    one = Terminal()
+    one.tell(begin + first)
+    one.read_to("posted 0")
+    runner, told = doctest.DocTestRunner(verbose=False), []
+    page = doctest.DocTestParser().get_doctest(blocks(section, "python")[0], {}, "page", None, 0)
+    runner.run(page, out=told.append)
+    want((runner.tries > 5, "".join(told)), (True, ""), "what the client does otherwise")
+    one.tell(leave)
+    one.read_to("served 6 calls")
 
 
 TESTS = [pipes_are_looked_at, books_are_new, events_that_are_not_written, events_are_told,
          events_have_their_times, a_failed_write_ends_a_session, bad_lines_are_answered,
          examples_of_the_client, four_firms,
          refusals_are_typed, nobody_waits_for_the_dead, a_wall_over_days, talk_in_the_shell,
-         first_session_of_the_page]
+         first_session_of_the_page, first_session_in_python]

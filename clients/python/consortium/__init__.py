@@ -17,6 +17,8 @@ are in docs/SCRIPT.md; docs/KINDS.md says of each kind what a rank gives and wha
                process where none is given. Who gives no elements needs none.
     count      how many elements a block has. Who gives some need not say it; all others must, since
                all members state it alike.
+    receipt    how many entries the server's book had at a time, and the digest of its text so far:
+               who keeps it can `verify` the book that is handed out later.
 
 The examples in this package are of a process `solo` that is alone in its world, so that they can be
 run by themselves (tests/live does). Python 3.8 or newer, and nothing else.
@@ -27,10 +29,11 @@ from .errors import BadLine, ConsortiumError, Denied, Gone, NoRoom, Refused, Stu
 from .grid import OnGrid
 from .pipes import await_writer, open_for_writing
 from .process import Process
+from .receipts import Receipt, read_receipt, verify
 from .request import Request
 from .values import Block, Blocks, Element
 
 __version__ = "1.0.0"
 __all__ = ["BadLine", "Block", "Blocks", "Comm", "ConsortiumError", "Denied", "Element", "Gone",
-           "NoRoom", "OnGrid", "Process", "Refused", "Request", "Stuck", "await_writer",
-           "open_for_writing"]
+           "NoRoom", "OnGrid", "Process", "Receipt", "Refused", "Request", "Stuck", "await_writer",
+           "open_for_writing", "read_receipt", "verify"]

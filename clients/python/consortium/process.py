@@ -7,8 +7,9 @@ import threading
 from typing import Any, Callable, List, Optional, Tuple
 
 from .comm import Comm
-from .errors import BadLine, Gone, Refused, shown
+from .errors import BadLine, ConsortiumError, Gone, Refused, shown
 from .pipes import Late, Pipes
+from .receipts import Receipt, read_receipt
 from .request import Request
 from .values import one_word
 
@@ -57,6 +58,24 @@ class Process:
         found: List[bytes] = []
         self._exchange(call, found.append, timeout)
         return found[0].decode("ascii")
+
+    def receipt(self) -> Receipt:
+        """What the book had by the time of this process's last call that was answered: how many
+        entries, and the digest of its text so far. `verify` tells later whether a book begins so.
+
+        It is no call of the run: it has no entry, is not counted, and holds up nobody. It covers
+        all that this process was told. What others did since its last call is in the next receipt
+        behind a call, as `ask("info 0")`.
+
+        >>> receipt = process.receipt()
+        >>> len(receipt.digest), receipt == process.receipt()
+        (64, True)
+        """
+        reply = b" ".join(self._call("head"))
+        try:
+            return read_receipt(reply.decode("ascii"))
+        except ValueError:
+            raise ConsortiumError(f"no receipt: {reply[:100]!r}") from None
 
     def leave(self) -> None:
         """Ends the session. The others go on; what is still open of this process stays so.

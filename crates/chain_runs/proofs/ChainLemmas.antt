@@ -34,7 +34,7 @@ module _ {A : Type 0} (xs : List A) (i : ℕ) (x : A) (low : i < length xs)
       ∙ ap (λ l. l ++ drop (i + 1) xs) (sym (one_more xs i x low at))
       ∙ take-append-drop (i + 1) xs
 
-  newest_first : reverse (take (i + 1) xs) ≡ x ∷ reverse (take i xs)
+  pub newest_first : reverse (take (i + 1) xs) ≡ x ∷ reverse (take i xs)
   newest_first = ap reverse (one_more xs i x low at) ∙ reverse-append (take i xs) (x ∷ [])
 
 -- ---- runs
@@ -89,17 +89,15 @@ module _ {D : Type 0} (fails : D → ℕ) (left : D → Option (List ℕ))
   -- one run more
   pub next_past : (runs : List Run) (i : ℕ) (run : Run) → i < length runs →
       run ≡ get_or runs i run → (links : List Link) (old new : Past) →
-      IsPast fails left is_at (take i runs) links old → HasRead fails left is_at old run new →
-      (more : List Link) × IsPast fails left is_at (take (i + 1) runs) more new
+      IsPast fails left is_at (take i runs) links old →
+      (read : HasRead fails left is_at old run new) →
+      IsPast fails left is_at (take (i + 1) runs) (read.1 ∷ links) new
   unfolding entries_of
-  next_past runs i run low at links old new past read = (
-    read.1 ∷ links,
-    record {
-      read = subst (λ l. AreRead fails left is_at l (read.1 ∷ links) new.policy)
-          (sym (newest_first runs i run low at))
-          (subst (λ o. AreRead fails left is_at (run ∷ reverse (take i runs)) (read.1 ∷ links) o)
-          (sym read.3) (old.policy, past.read, read.2));
-      chain = read.5 links past.chain;
-      entries = read.4 ∙ ap (λ n. n + length read.1.book) past.entries;
-    },
-  )
+  next_past runs i run low at links old new past read = record {
+    read = subst (λ l. AreRead fails left is_at l (read.1 ∷ links) new.policy)
+        (sym (newest_first runs i run low at))
+        (subst (λ o. AreRead fails left is_at (run ∷ reverse (take i runs)) (read.1 ∷ links) o)
+        (sym read.3) (old.policy, past.read, read.2));
+    chain = read.5 links past.chain;
+    entries = read.4 ∙ ap (λ n. n + length read.1.book) past.entries;
+  }

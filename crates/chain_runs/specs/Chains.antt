@@ -43,6 +43,13 @@ module _ {D : Type 0} (fails : D → ℕ) (left : D → Option (List ℕ))
       (was : Option ChineseWall) × AreRead before older was × StandsBehind was run now r
   AreRead runs links now = ⊥
 
+  -- the next run was read behind these, and this is known behind it
+  abbrev pub HasRead : (old : Past) → Run → (new : Past) → Type 0
+  HasRead old run new = (now : ChineseWall) × (r : Link) × StandsBehind old.policy run now r
+      × (new.policy ≡ Some now) × (new.entries ≡ old.entries + length r.book)
+      × ((links : List Link) → IsChainAfter old.policy links →
+      IsChainAfter new.policy (r ∷ links))
+
   -- what is known behind these runs, the oldest first
   pub record IsPast (runs : List Run) (links : List Link) (past : Past) : Type 0 where
     pub read : AreRead (reverse runs) links past.policy
@@ -69,12 +76,3 @@ module _ {D : Type 0} (fails : D → ℕ) (left : D → Option (List ℕ))
     pub stand : IsPast before links past
     pub after : broken.after ≡ past.policy
     pub fault : IsNotRead past one broken.fault
-
-  -- ---- words of private contracts
-
-  -- the next run was read
-  abbrev pub HasRead : (old : Past) → Run → (new : Past) → Type 0
-  HasRead old run new = (now : ChineseWall) × (r : Link) × StandsBehind old.policy run now r
-      × (new.policy ≡ Some now) × (new.entries ≡ old.entries + length r.book)
-      × ((links : List Link) → IsChainAfter old.policy links →
-      IsChainAfter new.policy (r ∷ links))

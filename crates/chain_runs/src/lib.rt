@@ -17,4 +17,4 @@ pub use fault::RunFault;
 pub use files::FileSystem;
 pub use policy::{Next, read_begun, read_next};
 pub use run::{Behind, read_run};
-pub use runs::{Broken, Past, read_runs};
+pub use runs::{Broken, Past, read_behind, read_runs};

@@ -30,8 +30,11 @@ pub struct Broken {
     pub fault: RunFault,
 }
 
-// Reads the next run.
-fn read_next<'p, F: FileSystem<'p>>(
+/// Reads one run of a chain again, behind those before it, from the files at its paths, as
+/// `read_run` does: gives what is known behind it.
+///
+/// `TooMany` is answered where all books have 2^64 entries or more.
+pub fn read_behind<'p, F: FileSystem<'p>>(
     alloc: Global,
     files: &F,
     past: &Past,
@@ -83,7 +86,7 @@ pub fn read_runs<'p, F: FileSystem<'p>>(
     };
     let mut number: u64 = 1;
     for run in runs {
-        match read_next(alloc, files, &past, run) {
+        match read_behind(alloc, files, &past, run) {
             Ok(longer) => past = longer,
             Err(fault) => {
                 return Err(Broken {

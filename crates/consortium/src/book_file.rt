@@ -6,7 +6,7 @@
 ghost use Rattle.program_line.specs.Kinds.{Opens};
 
 use crate::loss::{Lost, TellsLoss};
-use live_book::{BookSink, Receipt};
+use live_book::{BookSink, SinkReceipt};
 use program_commands::{Ending, Unready, end, refuse};
 use program_files::{Count, only_new, write_again};
 use std::fs;
@@ -90,7 +90,7 @@ pub(crate) struct FileReceipt {
     of: (),
 }
 
-impl Receipt for FileReceipt {}
+impl SinkReceipt for FileReceipt {}
 
 impl<L: Ledger, T: TellsLoss + Drop> BookSink for BookFile<L, T> {
     type Receipt = FileReceipt;

@@ -12,6 +12,7 @@ use crate::folder::Folder;
 use crate::loss::{Silent, TellsLoss};
 use crate::pipes::{Pipes, first_fault, pipes_in};
 use chain_runs::Next;
+use live_book::BookReceipt;
 use live_session::{Peer, ShowDesk};
 use program_commands::{Ending, end, refuse, serve_on};
 use program_files::{Count, StreamSink};
@@ -274,7 +275,7 @@ impl<'a, R: AllocGlobal + Threads + Wait + Sync> PipeServer<'a, R> {
         err: &mut E,
     ) -> Ended
     where
-        S: ShowDesk<O, Option<FileReceipt>> + Send + Drop,
+        S: ShowDesk<O, Option<BookReceipt<FileReceipt>>> + Send + Drop,
         O: Sink + Send + Drop,
     {
         let rt = self.rt;
@@ -313,7 +314,7 @@ fn serve_keeping<R, S, O, E: Sink, B: Ledger + Send, T: TellsLoss + Send + Drop>
 ) -> Ended
 where
     R: AllocGlobal + Threads + Wait + Sync,
-    S: ShowDesk<O, Option<FileReceipt>> + Send + Drop,
+    S: ShowDesk<O, Option<BookReceipt<FileReceipt>>> + Send + Drop,
     O: Sink + Send + Drop,
     requires { Opens book.blank B.name B.parts }
 {
@@ -331,7 +332,7 @@ fn serve_bookless<R, S, O, E: Sink>(
 ) -> Ended
 where
     R: AllocGlobal + Threads + Wait + Sync,
-    S: ShowDesk<O, Option<FileReceipt>> + Send + Drop,
+    S: ShowDesk<O, Option<BookReceipt<FileReceipt>>> + Send + Drop,
     O: Sink + Send + Drop,
 {
     let_go(serve_on::<_, _, _, _, BookFile<Brand, Silent>>(

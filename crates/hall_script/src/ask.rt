@@ -18,6 +18,8 @@ pub enum Ask {
     Act(Act),
     /// The outcome of the request of this number, as soon as there is one.
     Wait(u64),
+    /// How far the book has come.
+    Head,
     /// The end of its session.
     Leave,
 }
@@ -39,6 +41,10 @@ fn next_asked(
 {
     if first == b"wait".as_slice() {
         return Ok(Ask::Wait(last_number_in(words, u64::MAX)?));
+    }
+    if first == b"head".as_slice() {
+        end_of(words)?;
+        return Ok(Ask::Head);
     }
     if first == b"leave".as_slice() {
         end_of(words)?;
@@ -64,8 +70,8 @@ fn next_ask(memory: &mut Memory, policy: &Policy, words: &mut Parts) -> Result<A
 /// left.
 ///
 /// A call is said as `read_call` reads it, without the process: `post C KIND FIELDS`, with
-/// `as LABEL V ..` behind it, or `take REQUEST`, or `info C`. Beside it there are `wait REQUEST`
-/// and `leave`. Out of memory comes as there.
+/// `as LABEL V ..` behind it, or `take REQUEST`, or `info C`. Beside it there are `wait REQUEST`,
+/// `head` and `leave`. Out of memory comes as there.
 #[tactic(auto, unfolding(crate::specs::Asks::ask_said))]
 pub fn read_ask(alloc: Global, policy: &Policy, line: &[u8]) -> Result<Ask, LineFault>
     ensures ask { Gives result (ask_said policy.now.dataset_names line.now) }

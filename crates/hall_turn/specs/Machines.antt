@@ -1,12 +1,12 @@
 -- What a door needs of the machine behind it: the runs that it stands for, what a call makes of
 -- them, and whether it settled an instance.
 use Rattle.std.specs.Prelude.{◌≡◌, ◌↔◌, ℕ, ◌+◌, Bool, IsTrue, List, ◌∷◌, length}
-use Rattle.std.specs.Prelude.{Option, Some, None}
+use Rattle.std.specs.Prelude.{Option, Some}
 use Rattle.wall_policy.specs.Policy.{ChineseWall}
 use Rattle.run_model.specs.Books.{book}
 use Rattle.run_model.specs.Runs.{Entry, posts}
 use Rattle.hall_core.specs.Halls.{HallValue}
-use Rattle.hall_turn.specs.Receipts.{Covered}
+use Rattle.hall_turn.specs.Receipts.{Covered, nothing_known}
 pub use Rattle.hall_core.specs.Machines.{Stands, ForEachRun, Carries, ClaimsAfter}
 
 -- how many entries the book of a run has
@@ -24,6 +24,6 @@ abbrev pub TellsWhether : {M : Type 0} → (ChineseWall → M → List Entry →
 TellsWhether stands old settled e =
     ForEachRun stands old (λ wall run. IsTrue settled ↔ Settles wall run e)
 
--- a hall writes nothing down, so it never lacks anything that it had to write; no bytes are known
+-- a hall writes nothing down, so it never lacks anything that it had to write; nothing is known
 abbrev pub always_booked : HallValue → Option Covered
-always_booked hall = Some None
+always_booked hall = Some nothing_known

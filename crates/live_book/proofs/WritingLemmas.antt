@@ -19,11 +19,13 @@ use Rattle.audit_book.specs.Text.{line_of}
 use Rattle.hall_core.specs.Briefs.{Adds}
 use Rattle.hall_core.specs.Halls.{HallValue, HallView, StandsFor, view_of}
 use Rattle.hall_core.specs.Machines.{RepliesWith, Stands}
+use Rattle.sha2.specs.Hashers.{Holds256}
 use Rattle.hall_turn.specs.Machines.{Settles, entries_of}
+use Rattle.hall_turn.specs.Receipts.{Extent}
 use Rattle.live_book.specs.declared.unbooked.Unbooked.{Unbooked}
 use Rattle.live_book.specs.declared.unbooked.Unbooked.TheVariants.{TooLong}
 use Rattle.live_book.specs.Books.{IsBooked, IsCut, IsUnbooked, IsWritten, SinkValue}
-use Rattle.live_book.specs.Books.{StandsWithBook, book_of, text_so_far}
+use Rattle.live_book.specs.Books.{HasCome, StandsWithBook, book_of, text_so_far}
 use Rattle.live_book.specs.Writing.{TellsWritten, Writes, WritesAll, WritesPrefix}
 
 -- ## bytes
@@ -186,19 +188,58 @@ written_still wall begun sink (Some fault) run e same is =
     still_cut wall begun run e [] (same ∙ sym (append-nil (book_of wall run))) sink sink fault refl
     is
 
+-- ## how far the text has come
+
+-- with the first line alone
+pub come_first : (wall : ChineseWall) (far : Extent) → far.entries ≡ 0 →
+    Holds256 far.hasher (line_of (header_words wall.version)) → HasCome wall far []
+come_first wall far none holds = record {
+  entries = none;
+  holds = subst (Holds256 far.hasher) (sym (append-nil (line_of (header_words wall.version)))) holds;
+}
+
+-- these entries were counted, and the hasher has taken their lines
+pub record Takes (far next : Extent) (wall : ChineseWall) (news : List BookEntry) : Type 0 where
+  pub entries : next.entries ≡ far.entries + length news
+  pub holds : (text : List ℕ) → Holds256 far.hasher text →
+      Holds256 next.hasher (text ++ entry_lines wall news)
+
+come_more : (wall : ChineseWall) (far next : Extent) (run : List Entry) (e : Entry)
+    (added : List BookEntry) → book_of wall (e ∷ run) ≡ book_of wall run ++ added →
+    Takes far next wall added → HasCome wall far run → HasCome wall next (e ∷ run)
+come_more wall far next run e added is_book takes come = record {
+  entries = takes.entries ∙ (ap (λ (n : ℕ). n + length added) come.entries
+      ∙ sym (ap length is_book ∙ length-append (book_of wall run) added));
+  holds = subst (Holds256 next.hasher)
+      (sym (ap (text_so_far wall) is_book ∙ text_more wall (book_of wall run) added))
+      (takes.holds (text_so_far wall (book_of wall run)) come.holds);
+}
+
+come_still : (wall : ChineseWall) (far : Extent) (run : List Entry) (e : Entry) →
+    book_of wall (e ∷ run) ≡ book_of wall run → HasCome wall far run → HasCome wall far (e ∷ run)
+come_still wall far run e same come = record {
+  entries = come.entries ∙ sym (ap length same);
+  holds = subst (λ (b : List BookEntry). Holds256 far.hasher (text_so_far wall b)) (sym same)
+      come.holds;
+}
+
 -- ## calls
 
 -- what a hall stands for after a call, whose news were written or not
 pub stands_more : (wall : ChineseWall) (old new : HallValue) (begun was is : SinkValue)
-    (before after : Option Unbooked) (run : List Entry) (e : Entry) (w : ChineseWall)
-    (olds news : List BookEntry) → olds ≡ [] → w ≡ wall → Stands wall new (e ∷ run) →
-    Adds wall run e olds news → Writes before after was is (entry_lines w news) →
+    (far next : Extent) (before after : Option Unbooked) (run : List Entry) (e : Entry)
+    (w : ChineseWall) (olds news : List BookEntry) → olds ≡ [] → w ≡ wall →
+    Stands wall new (e ∷ run) → Adds wall run e olds news →
+    Writes before after was is (entry_lines w news) →
     (before ≡ None → (fault : Unbooked) → after ≡ Some fault →
     IsTooLongAt wall (e ∷ run) fault) →
-    StandsWithBook wall (record { hall = old; begun = begun; sink = was; fault = before }) run →
-    StandsWithBook wall (record { hall = new; begun = begun; sink = is; fault = after }) (e ∷ run)
-stands_more wall old new begun was is before after run e w olds news none lines hall adds writes
-    long stands =
+    (after ≡ None → (before ≡ None) × Takes far next w news) →
+    StandsWithBook wall
+    (record { hall = old; begun = begun; sink = was; extent = far; fault = before }) run →
+    StandsWithBook wall
+    (record { hall = new; begun = begun; sink = is; extent = next; fault = after }) (e ∷ run)
+stands_more wall old new begun was is far next before after run e w olds news none lines hall adds
+    writes long takes stands =
     let news_are : news ≡ adds.added =
     adds.news ∙ ap (λ (l : List BookEntry). l ++ adds.added) none in
     record {
@@ -207,18 +248,26 @@ stands_more wall old new begun was is before after run e w olds news none lines 
       book = written_more wall begun run e adds.added adds.book was is before after stands.book
           (subst (λ (bytes : List ℕ). Writes before after was is bytes)
           (λ i. entry_lines (lines i) (news_are i)) writes) long;
+      extent = λ whole.
+          let t = takes whole in
+          come_more wall far next run e adds.added adds.book
+          (subst (λ (v : ChineseWall). Takes far next v adds.added) lines
+          (subst (Takes far next w) news_are t.1)) (stands.extent t.0);
     }
 
 -- and after a take
-pub stands_on : (wall : ChineseWall) (old new : HallValue) (begun sink : SinkValue)
+pub stands_on : (wall : ChineseWall) (old new : HallValue) (begun sink : SinkValue) (far : Extent)
     (fault : Option Unbooked) (run : List Entry) (e : Entry) → Stands wall new (e ∷ run) →
     book_of wall (e ∷ run) ≡ book_of wall run →
-    StandsWithBook wall (record { hall = old; begun = begun; sink = sink; fault = fault }) run →
-    StandsWithBook wall (record { hall = new; begun = begun; sink = sink; fault = fault }) (e ∷ run)
-stands_on wall old new begun sink fault run e hall keeps stands = record {
+    StandsWithBook wall
+    (record { hall = old; begun = begun; sink = sink; extent = far; fault = fault }) run →
+    StandsWithBook wall
+    (record { hall = new; begun = begun; sink = sink; extent = far; fault = fault }) (e ∷ run)
+stands_on wall old new begun sink far fault run e hall keeps stands = record {
   policy = hall.0;
   hall = hall.1;
   book = written_still wall begun sink fault run e keeps stands.book;
+  extent = λ whole. come_still wall far run e keeps (stands.extent whole);
 }
 
 -- what a hall has replied stays so where it lets go of its news

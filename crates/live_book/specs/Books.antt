@@ -8,7 +8,8 @@ use Rattle.run_model.specs.Books.{book}
 use Rattle.run_model.specs.Runs.{Entry, posts}
 use Rattle.audit_book.specs.Text.{entry_lines, header_words, line_of}
 use Rattle.hall_core.specs.Halls.{HallValue, StandsFor}
-use Rattle.hall_turn.specs.Receipts.{Covered}
+use Rattle.sha2.specs.Hashers.{Holds256}
+use Rattle.hall_turn.specs.Receipts.{Covered, Extent}
 use Rattle.live_book.specs.declared.unbooked.Unbooked.{Unbooked}
 use Rattle.live_book.specs.declared.unbooked.Unbooked.TheVariants.{Write, NoMemory, TooLong}
 
@@ -30,6 +31,8 @@ pub record BookedHallValue : Type 0 where
   -- the sink as it was at the opening, and as it is
   pub begun : SinkValue
   pub sink : SinkValue
+  -- how far the text of the book has come, as long as nothing went wrong
+  pub extent : Extent
   -- why nothing is written any more, if so
   pub fault : Option Unbooked
 
@@ -37,14 +40,15 @@ pub record BookedHallValue : Type 0 where
 abbrev pub is_all_booked : BookedHallValue → Bool
 is_all_booked m = is_none m.fault
 
--- these bytes, if nothing went wrong
+-- this, if nothing went wrong
 abbrev pub unless_cut : (fault : Option Unbooked) → Covered → Option Covered
-unless_cut None bytes = Some bytes
-unless_cut (Some fault) bytes = None
+unless_cut None covers = Some covers
+unless_cut (Some fault) covers = None
 
--- what a receipt covers that it gives now: all that the sink has, as long as all was written
+-- what a receipt covers that it gives now: all that the sink has, and how far the text has come, as
+-- long as all was written
 abbrev pub covered : BookedHallValue → Option Covered
-covered m = unless_cut m.fault m.sink.contents
+covered m = unless_cut m.fault (record { contents = m.sink.contents; extent = Some m.extent })
 
 -- the book of a run
 abbrev pub book_of : ChineseWall → List Entry → List BookEntry
@@ -83,6 +87,11 @@ pub record IsCut (wall : ChineseWall) (begun sink : SinkValue) (run : List Entry
   pub is_fault : IsUnbooked fault begun.failures sink.failures
   pub too_long : fault ≡ TooLong → 18446744073709551616 ≤ length (book_of wall run)
 
+-- The text of the run's book so far has come so far.
+pub record HasCome (wall : ChineseWall) (extent : Extent) (run : List Entry) : Type 0 where
+  pub entries : extent.entries ≡ length (book_of wall run)
+  pub holds : Holds256 extent.hasher (text_so_far wall (book_of wall run))
+
 -- the one as long as nothing went wrong, and then the other
 abbrev pub IsWritten : ChineseWall → (begun sink : SinkValue) → Option Unbooked → List Entry →
     Type 0
@@ -95,6 +104,7 @@ pub record StandsWithBook (wall : ChineseWall) (m : BookedHallValue) (run : List
     pub policy : m.hall.policy ≡ wall
     pub hall : StandsFor m.hall run
     pub book : IsWritten wall m.begun m.sink m.fault run
+    pub extent : m.fault ≡ None → HasCome wall m.extent run
 
 -- it stands for the run with its book, and its sink was so at the opening
 abbrev pub StandsBehind : (begun : SinkValue) → ChineseWall → BookedHallValue → List Entry → Type 0

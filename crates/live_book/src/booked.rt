@@ -8,18 +8,20 @@ ghost use Rattle.live_book.specs.Writing.{TellsWritten, WritesPrefix, sink_value
 use crate::begun::Begun;
 use crate::finished::{Finished, Unopened};
 use crate::lines::write_header;
+use crate::receipt::{BookReceipt, copy_of};
 use crate::sink::BookSink;
 use crate::unbooked::Unbooked;
 use crate::writer::BookWriter;
 use hall_core::{BriefHall, Call, Claim, Reply};
 use hall_turn::Applied;
+use sha2::{Digest, Sha256};
 use std::alloc::Global;
 use std::marker::{Model, PhantomData};
 use wall_policy::Policy;
 
 /// A hall beside the sink to which its book is written. Contracts see what a hall keeps that has
-/// its whole book, the sink as it was at the opening and as it is, and why nothing is written any
-/// more, if so.
+/// its whole book, the sink as it was at the opening and as it is, how far the text has come, and
+/// why nothing is written any more, if so.
 pub struct BookedHall<B: BookSink, K: Begun> {
     hall: BriefHall,
     writer: BookWriter<B>,
@@ -38,11 +40,13 @@ impl<B: BookSink + Drop, K: Begun> Drop for BookedHall<B, K> {
             sink,
             text,
             entries: _,
+            hasher,
             fault: _,
         } = writer;
         drop(hall);
         drop(sink);
         drop(text);
+        drop(hasher);
     }
 }
 
@@ -61,6 +65,7 @@ impl<B: BookSink, K: Begun> Model for BookedHall<B, K> {
       hall = b.hall.hall;
       begun = K.begun;
       sink = sink_value B.contents B.lasting B.failures b.writer.sink;
+      extent = record { entries = b.writer.entries; hasher = b.writer.hasher };
       fault = b.writer.fault;
     } };
 
@@ -79,6 +84,7 @@ impl<B: BookSink, K: Begun> BookedHall<B, K> {
     ghost use Rattle.hall_core.specs.Machines.{Carries, ForEachRun, KeepsApart, RepliesWith};
     ghost use Rattle.hall_turn.specs.Machines.{TellsWhether};
     ghost use Rattle.live_book.specs.Books.{StandsWithBook, book_of, covered, is_all_booked};
+    ghost use Rattle.live_book.specs.Receipts.{covers_of};
 
     /// A hall that stands for the empty run, with the first line of its book written. Else the sink
     /// comes back, with a prefix of that line, and why: `NoMemory` only where a growth was refused.
@@ -92,19 +98,24 @@ impl<B: BookSink, K: Begun> BookedHall<B, K> {
             (line_of (header_words policy.version))) }
     {
         let mut sink = sink;
-        let Ok(hall) = BriefHall::open(alloc, policy) else {
-            return Err(Unopened {
-                sink,
-                fault: Unbooked::NoMemory,
-            });
+        let hall = match BriefHall::open(alloc, policy) {
+            Ok(hall) => hall,
+            Err(refused) => {
+                return Err(Unopened {
+                    sink,
+                    fault: Unbooked::from(refused),
+                });
+            }
         };
         let mut text = Vec::new(alloc);
-        match write_header(hall.policy(), &mut text, &mut sink) {
+        let mut hasher = Sha256::new();
+        match write_header(hall.policy(), &mut text, &mut hasher, &mut sink) {
             Ok(()) => {
                 let writer = BookWriter {
                     sink,
                     text,
                     entries: 0,
+                    hasher,
                     fault: None,
                 };
                 Ok(BookedHall {
@@ -116,6 +127,7 @@ impl<B: BookSink, K: Begun> BookedHall<B, K> {
             Err(fault) => {
                 drop(hall);
                 drop(text);
+                drop(hasher);
                 Err(Unopened { sink, fault })
             }
         }
@@ -173,12 +185,17 @@ impl<B: BookSink, K: Begun> BookedHall<B, K> {
         self.writer.fault.is_none()
     }
 
-    /// A receipt of the sink, which covers all that it has, as long as all was written.
-    pub fn receipt(&self) -> Option<B::Receipt>
-        ensures { option_map B.Receipt.covers result ≡ covered self.now }
+    /// A receipt of the sink, which covers all that it has, and of how far the text has come, as
+    /// long as all was written.
+    pub fn receipt(&self) -> Option<BookReceipt<B::Receipt>>
+        ensures { option_map (covers_of B.Receipt.covers) result ≡ covered self.now }
     {
         match self.writer.fault {
-            None => Some(self.writer.sink.receipt()),
+            None => Some(BookReceipt {
+                entries: self.writer.entries,
+                hasher: copy_of(&self.writer.hasher),
+                sink: self.writer.sink.receipt(),
+            }),
             Some(_) => None,
         }
     }
@@ -204,9 +221,11 @@ impl<B: BookSink, K: Begun> BookedHall<B, K> {
             sink,
             text,
             entries: _,
+            hasher,
             fault,
         } = writer;
         drop(text);
+        drop(hasher);
         let written = match fault {
             None => Ok(()),
             Some(fault) => Err(fault),

@@ -53,7 +53,7 @@ impl BooklessHall {
     {
         match BriefHall::open(alloc, policy) {
             Ok(hall) => Ok(BooklessHall { hall }),
-            Err(_) => Err(NoMemory),
+            Err(refused) => Err(refused),
         }
     }
 

@@ -6,6 +6,7 @@ ghost use Rattle.live_book.specs.Machines.{has_no_book};
 use crate::begun::Begun;
 use crate::booked::BookedHall;
 use crate::bookless::BooklessHall;
+use crate::receipt::BookReceipt;
 use crate::sink::BookSink;
 use hall_core::{Call, Claim};
 use hall_turn::{Applied, Machine, Receipt, Receipts};
@@ -28,8 +29,8 @@ impl<B: BookSink, K: Begun> Machine for BookedHall<B, K> {
     }
 }
 
-impl<B: BookSink, K: Begun> Receipts<Option<B::Receipt>> for BookedHall<B, K> {
-    fn receipt(&self) -> Option<Option<B::Receipt>> {
+impl<B: BookSink, K: Begun> Receipts<Option<BookReceipt<B::Receipt>>> for BookedHall<B, K> {
+    fn receipt(&self) -> Option<Option<BookReceipt<B::Receipt>>> {
         match BookedHall::receipt(self) {
             Some(receipt) => Some(Some(receipt)),
             None => None,

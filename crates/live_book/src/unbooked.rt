@@ -1,7 +1,7 @@
 //! Why a book is not written.
 use std::alloc::AllocError;
 use thiserror::Error;
-use wall_labels::{Failed, NoMemory as OutOfMemory};
+use wall_labels::{Failed, NoMemory};
 
 /// Why a book is not written any more. A prefix of its text is.
 #[derive(Clone, Copy, Debug, PartialEq, Eq, Error)]
@@ -28,13 +28,13 @@ impl From<Failed> for Unbooked {
     }
 }
 
-impl From<OutOfMemory> for Unbooked {
+impl From<NoMemory> for Unbooked {
     ghost use Rattle.std.specs.Prelude.{◌≡◌};
     ghost use Rattle.live_book.specs.declared.unbooked.Unbooked.TheVariants.{NoMemory};
 
     ghost from_gives = { λ _ e. e ≡ NoMemory };
 
-    fn from(_e: OutOfMemory) -> Unbooked {
+    fn from(_refused: NoMemory) -> Unbooked {
         Unbooked::NoMemory
     }
 }
@@ -45,7 +45,7 @@ impl From<AllocError> for Unbooked {
 
     ghost from_gives = { λ _ e. e ≡ NoMemory };
 
-    fn from(_e: AllocError) -> Unbooked {
-        Unbooked::NoMemory
+    fn from(refused: AllocError) -> Unbooked {
+        Unbooked::from(NoMemory::from(refused))
     }
 }

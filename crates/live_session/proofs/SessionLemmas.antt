@@ -25,13 +25,15 @@ use Rattle.run_model.specs.Contributions.{Contribution, posts_of}
 use Rattle.run_model.specs.Runs.{Entry, contributions, contribution_in, posts}
 use Rattle.run_model.specs.Replies.{Legal}
 use Rattle.hall_script.specs.declared.ask.Ask.{Ask}
-use Rattle.hall_script.specs.declared.ask.Ask.TheVariants.{Act as ToAct, Wait, Leave}
+use Rattle.hall_script.specs.declared.ask.Ask.TheVariants.{Act as ToAct, Wait, Head as AskHead}
+use Rattle.hall_script.specs.declared.ask.Ask.TheVariants.{Leave}
 use Rattle.hall_script.specs.Devices.{Used, used, bytes_before, bytes_after, NeverFailed}
 use Rattle.hall_script.specs.Devices.{IsWritten, BrokeOff}
 use Rattle.hall_script.specs.Replies.{reply_line}
 use Rattle.hall_turn.specs.declared.answer.Answer.{Answer}
 use Rattle.hall_turn.specs.declared.answer.Answer.TheVariants.{Reply as Replied, Exhausted as Late}
 use Rattle.hall_turn.specs.Runs.{Continues, calls_of}
+use Rattle.hall_turn.specs.declared.head.Head.{Head}
 use Rattle.hall_turn.specs.Receipts.{Covered}
 use Rattle.hall_turn.specs.Known.{Known, Doorway}
 use Rattle.hall_turn.specs.Answers.{IsSamePass, Answered, Gives, GivesAt}
@@ -43,7 +45,8 @@ use Rattle.live_session.specs.declared.acting.Came.TheVariants as cames
 use Rattle.live_session.specs.declared.answer.Next.{Next}
 use Rattle.live_session.specs.declared.answer.Next.TheVariants as nexts
 use Rattle.live_session.specs.Lines.{said}
-use Rattle.live_session.specs.Sessions.{Told, done, waited, asked_nothing, said_by, called}
+use Rattle.live_session.specs.Sessions.{Told, done, waited, asked_head, asked_nothing, said_by}
+use Rattle.live_session.specs.Sessions.{called, AsksForCall, TellsHead, shown_last}
 use Rattle.live_session.specs.Sessions.{calls_for, made, answer, answers, SeesMore, Acted, EndsAt}
 use Rattle.live_session.specs.Sessions.{SaysLast, IsCutIn, BreaksOff, EndsSo, and_untold, Stood}
 use Rattle.live_session.specs.Sessions.{last_call, StoodBehind, StoodFor, AreBooked, EndsUnbooked}
@@ -54,7 +57,8 @@ use Rattle.live_session.specs.Steps.{ComesTo, MayHaveCome, reply_to}
 use Rattle.live_session.specs.Steps.{CameTo, Waited}
 use Rattle.live_session.specs.Steps.{came_of, line_to, next_after, AnswersSo, WritesAnswer}
 use Rattle.live_session.specs.Steps.{PutsAnswer, AnswersLine, SoFar, Stops, StopsSo, Holds}
-use Rattle.live_session.specs.Steps.{behind, IsUnread, Showing, showing, shown_next}
+use Rattle.live_session.specs.Steps.{behind, IsUnread, Receipts, Showing, Shows, receipts, showing}
+use Rattle.live_session.specs.Steps.{shown_next}
 use Rattle.live_session.specs.Steps.{AnswersBehind, CameNamesKnown, Counting, counting, Counted}
 use Rattle.live_session.specs.Steps.{IsUncounted, calls_after, Counts, IsOver}
 use Rattle.live_session.specs.declared.line.Unfinished.{Unfinished}
@@ -202,6 +206,10 @@ counted_bad : (bad : BadLine) (k l : ℕ) → IsUncounted (counting k l) →
     Counted (asked_nothing bad ∷ []) (counting k l)
 counted_bad bad k l t = omega arith
 
+counted_head : (head : Option Head) (k l : ℕ) → IsUncounted (counting k l) →
+    Counted (asked_head head ∷ []) (counting k l)
+counted_head head k l t = omega arith
+
 pub counted_untold : (untold : Option Told) (later first : List Told) (k l m : ℕ) →
     Counted first (counting k l) → Counted (and_untold untold later) (counting l m) →
     Counted (and_untold untold (later ++ first)) (counting k m)
@@ -249,6 +257,7 @@ posts-append later first =
 line_posts : (p : ℕ) (told : Told) → length (posts (calls_for p told)) ≤ counts_as told
 line_posts p (done act reply) = call_posts p act reply
 line_posts p (waited request again reply) = let none = no_posts p request again in omega arith
+line_posts p (asked_head head) = omega arith
 line_posts p (asked_nothing bad) = omega arith
 
 pub made_posts : (p : ℕ) (told : List Told) → length (posts (made p told)) ≤ calls_in told
@@ -284,6 +293,21 @@ counts_more most k m before after calls within fits c sees =
       within = within;
       seen = subst (λ (p : ℕ). m ≤ length (calls_of p after.seen)) (sym sees.same.1) low;
     }
+
+-- ---- the receipt shown last
+
+last_then : (last : Option Covered) (later first : List Shown) →
+    shown_last last (later ++ first) ≡ shown_last (shown_last last first) later
+last_then last [] first = refl
+last_then last (show ∷ later) first = refl
+
+-- a line that makes a call is told no head
+no_head : (last : Option Covered) (p : ℕ) (told : Told) → last_call p told ≢ None →
+    TellsHead last told
+no_head last p (done act reply) calls = tt
+no_head last p (waited request again reply) calls = tt
+no_head last p (asked_head head) calls = absurd (calls refl)
+no_head last p (asked_nothing bad) calls = tt
 
 -- ---- the machine
 
@@ -390,33 +414,40 @@ module _ (stood : ChineseWall → List Entry → Option Covered → Type 0) wher
       later (last_call b.process told) shows s w h))
 
   booked_on : (wall : ChineseWall) (written : Option (List ℕ)) (a b d : Known)
-      (told : List Told) (shows : List Shown) → Continues d.seen b.seen →
-      AreBooked stood wall written a told shows b → AreBooked stood wall written a told shows d
-  booked_on wall written a b d [] shows more h = h
-  booked_on wall written a b d (told ∷ past) shows more (newest, earlier, is, h, now) = (
+      (last : Option Covered) (told : List Told) (shows : List Shown) → Continues d.seen b.seen →
+      AreBooked stood wall written a last told shows b →
+      AreBooked stood wall written a last told shows d
+  booked_on wall written a b d last [] shows more h = h
+  booked_on wall written a b d last (told ∷ past) shows more (newest, earlier, is, h, now, head) = (
     newest,
     earlier,
     is,
-    booked_on wall written a b d past earlier more h,
+    booked_on wall written a b d last past earlier more h,
     shown_on wall written a b d (last_call a.process told) (made a.process (told ∷ past)) past
         newest more now,
+    head,
   )
 
   pub booked_then : (wall : ChineseWall) (old mid : Option (List ℕ)) (a b d : Known)
-      (first later : List Told) (shows more : List Shown) → SeesMore a (made a.process first) b →
-      Appends old mid (answers wall first) → AreBooked stood wall old a first shows b →
-      AreBooked stood wall mid b later more d → Continues d.seen b.seen →
-      AreBooked stood wall old a (later ++ first) (more ++ shows) d
-  booked_then wall old mid a b d first [] shows more s w h none on =
-      subst (λ (l : List Shown). AreBooked stood wall old a first l d)
-      (ap (λ (l : List Shown). l ++ shows) (sym none)) (booked_on wall old a b d first shows on h)
-  booked_then wall old mid a b d first (told ∷ later) shows more s w h
-      (newest, earlier, is, t, now) on = (
+      (last since : Option Covered) (first later : List Told) (shows more : List Shown) →
+      SeesMore a (made a.process first) b → Appends old mid (answers wall first) →
+      since ≡ shown_last last shows → AreBooked stood wall old a last first shows b →
+      AreBooked stood wall mid b since later more d → Continues d.seen b.seen →
+      AreBooked stood wall old a last (later ++ first) (more ++ shows) d
+  booked_then wall old mid a b d last since first [] shows more s w k h none on =
+      subst (λ (l : List Shown). AreBooked stood wall old a last first l d)
+      (ap (λ (l : List Shown). l ++ shows) (sym none))
+      (booked_on wall old a b d last first shows on h)
+  booked_then wall old mid a b d last since first (told ∷ later) shows more s w k h
+      (newest, earlier, is, t, now, head) on = (
         newest,
         earlier ++ shows,
         ap (λ (l : List Shown). l ++ shows) is ∙ append_assoc newest earlier shows,
-        booked_then wall old mid a b d first later shows earlier s w h t on,
+        booked_then wall old mid a b d last since first later shows earlier s w k h t on,
         shown_then wall old mid a b d first later told newest s w now,
+        subst (λ (c : Option Covered). TellsHead c told)
+            (ap (λ (c : Option Covered). shown_last c earlier) k
+            ∙ sym (last_then last earlier shows)) head,
       )
 
   -- the receipt of a line's last call was shown before its answer
@@ -439,6 +470,7 @@ module _ (stood : ChineseWall → List Entry → Option Covered → Type 0) wher
         (so (called b.process (Take request) reply) refl),
     Appends-nil written,
   )
+  is_shown wall written b d (asked_head head) covers calls so = absurd (calls refl)
   is_shown wall written b d (asked_nothing bad) covers calls so = absurd (calls refl)
 
   -- the newest line of later ones
@@ -461,12 +493,6 @@ pub at_door : (door : Doorway) (pass : Known) (run : List Entry) → pass.door �
 at_door door pass run is legal =
     subst (λ (d : Doorway). Legal d.policy run) (sym is) legal
 
-pub no_leave : (ask : Ask) (act : Act) → ask ≡ ToAct act → ask ≡ Leave → ⊥
-no_leave ask act e f = cc
-
-pub no_wait : (ask : Ask) (request : ℕ) → ask ≡ Wait request → ask ≡ Leave → ⊥
-no_wait ask request e f = cc
-
 -- there is a receipt that covers something, exactly if there is one
 pub still_some : {A B : Type 0} (covers : A → B) (receipt : Option A) (b : Bool) →
     b ≡ is_some receipt → b ≡ is_some (option_map covers receipt)
@@ -482,13 +508,14 @@ came_known wall Late receipt named = tt
 
 -- what came of a call is told where the machine was booked
 told_or_not : (stood : ChineseWall → List Entry → Option Covered → Type 0) (most : Option ℕ)
-    (before after : Known) (ask : Ask) (told : Told) (reply : Reply) (receipt : Option Covered)
-    (count : Counting) → last_call before.process told ≢ None → reply_to told ≡ Some reply →
-    Counted (told ∷ []) count → ComesTo stood before (Ok ask) told receipt after →
-    CameTo stood most before ask (came_of (Replied reply) receipt) receipt count after
-told_or_not stood most before after ask told reply (Some covers) count calls is counted comes =
+    (before after : Known) (ask : Ask) (told : Told) (reply : Reply)
+    (last receipt : Option Covered) (count : Counting) → last_call before.process told ≢ None →
+    reply_to told ≡ Some reply → Counted (told ∷ []) count →
+    ComesTo stood before (Ok ask) told receipt after →
+    CameTo stood most before ask (came_of (Replied reply) receipt) last receipt count after
+told_or_not stood most before after ask told reply last (Some covers) count calls is counted comes =
     (told, (covers, comes, refl, calls, counted), is)
-told_or_not stood most before after ask told reply None count calls is counted comes =
+told_or_not stood most before after ask told reply last None count calls is counted comes =
     (told, comes, calls, counted)
 
 fewer_left : {X : Type 0} (p : X → Bool) (xs : List X) → length (filter p xs) ≤ length xs
@@ -505,11 +532,11 @@ over_of most k before (inr many) seen =
 
 -- the session may make no call more
 pub spent_came : (stood : ChineseWall → List Entry → Option Covered → Type 0) (most : Option ℕ)
-    (k : ℕ) (before : Known) (ask : Ask) (receipt : Option Covered) → ask ≢ Leave →
+    (k : ℕ) (before : Known) (ask : Ask) (last receipt : Option Covered) → AsksForCall ask →
     Legal before.door.policy before.seen → IsSpent most k ⊎ (18446744073709551615 ≤ k) →
     Counts most k before →
-    CameTo stood most before ask cames.Exhausted receipt (counting k k) before
-spent_came stood most k before ask receipt calls legal spent c = record {
+    CameTo stood most before ask cames.Exhausted last receipt (counting k k) before
+spent_came stood most k before ask last receipt calls legal spent c = record {
   ask = ask;
   says = refl;
   calls = calls;
@@ -611,11 +638,11 @@ module _ {M : Type 0} (stands : ChineseWall → M → List Entry → Type 0)
       (old new : Option Covered) →
       IsSamePass before after → Legal before.door.policy after.seen →
       Answered before act a after → GivesAt stands booked before a after old new →
-      CameTo (Stood stands booked) most before (ToAct act) (came_of a new) new
+      CameTo (Stood stands booked) most before (ToAct act) (came_of a new) old new
       (counting k (calls_after a k)) after
   act_came most k before after act (Replied reply) old new same legal a says =
       told_or_not (Stood stands booked) most before after (ToAct act) (done act reply) reply
-      new (counting k (suc k)) (λ e. absurd cc) refl (counted_call act reply k)
+      old new (counting k (suc k)) (λ e. absurd cc) refl (counted_call act reply k)
       (record {
         says = refl;
         sees = sees_call before after act reply same legal a;
@@ -624,24 +651,24 @@ module _ {M : Type 0} (stands : ChineseWall → M → List Entry → Type 0)
   act_came most k before after act Late old new same legal a says = record {
     ask = ToAct act;
     says = refl;
-    calls = no_leave (ToAct act) act refl;
+    calls = tt;
     sees = sees_late before after act same legal a;
     uncounted = refl;
     over = inr a.1;
   }
 
 pub wait_came : (stood : ChineseWall → List Entry → Option Covered → Type 0) (most : Option ℕ)
-    (k : ℕ) (before after : Known) (request : ℕ) (a : Answer) (receipt : Option Covered) →
+    (k : ℕ) (before after : Known) (request : ℕ) (a : Answer) (last receipt : Option Covered) →
     Waited stood before request a receipt after →
-    CameTo stood most before (Wait request) (came_of a receipt) receipt
+    CameTo stood most before (Wait request) (came_of a receipt) last receipt
     (counting k (calls_after a k)) after
-wait_came stood most k before after request (Replied reply) receipt (again, comes) =
-    told_or_not stood most before after (Wait request) (waited request again reply) reply receipt
-    (counting k (suc k)) (λ e. absurd cc) refl (counted_wait request again reply k) comes
-wait_came stood most k before after request Late receipt (sees, late) = record {
+wait_came stood most k before after request (Replied reply) last receipt (again, comes) =
+    told_or_not stood most before after (Wait request) (waited request again reply) reply last
+    receipt (counting k (suc k)) (λ e. absurd cc) refl (counted_wait request again reply k) comes
+wait_came stood most k before after request Late last receipt (sees, late) = record {
   ask = Wait request;
   says = refl;
-  calls = no_wait (Wait request) request refl;
+  calls = tt;
   sees = sees;
   uncounted = refl;
   over = inr late;
@@ -682,6 +709,7 @@ replied : (wall : ChineseWall) (told : Told) (reply : Reply) → reply_to told �
 replied wall (done act r) reply e = let k : r ≡ reply = cc in ap (reply_line wall) (sym k)
 replied wall (waited request again r) reply e =
     let k : r ≡ reply = cc in ap (reply_line wall) (sym k)
+replied wall (asked_head head) reply e = absurd cc
 replied wall (asked_nothing bad) reply e = absurd cc
 
 module _ (stood : ChineseWall → List Entry → Option Covered → Type 0) (most : Option ℕ) where
@@ -693,47 +721,51 @@ module _ (stood : ChineseWall → List Entry → Option Covered → Type 0) (mos
       (says, sees_none before (subst (λ (w : ChineseWall). Legal w before.seen) is legal))
 
   came_answers : (wall : ChineseWall) (before after : Known) (ask : Ask) (it : Came)
-      (receipt : Option Covered) (count : Counting) →
-      CameTo stood most before ask it receipt count after →
-      AnswersSo stood most wall before (Ok ask) (line_to wall it) receipt count after
+      (last receipt : Option Covered) (count : Counting) →
+      CameTo stood most before ask it last receipt count after →
+      AnswersSo stood most wall before (Ok ask) (line_to wall it) last receipt count after
       (next_after it)
-  came_answers wall before after ask (cames.Reply reply) receipt count (told, comes, is) =
+  came_answers wall before after ask (cames.Reply reply) last receipt count (told, comes, is) =
       (told, comes, replied wall told reply is)
-  came_answers wall before after ask cames.Left receipt count (is, sees, none) =
+  came_answers wall before after ask (cames.Head head) last receipt count
+      (is, sees, none, by, same) = (inr (head, ap Ok is, refl, by), sees, none, same)
+  came_answers wall before after ask cames.Left last receipt count (is, sees, none) =
       (ap Ok is, sees, none, refl)
-  came_answers wall before after ask cames.Exhausted receipt count late = (late, refl)
-  came_answers wall before after ask cames.Unbooked receipt count comes = (comes, refl)
+  came_answers wall before after ask cames.Exhausted last receipt count late = (late, refl)
+  came_answers wall before after ask cames.Unbooked last receipt count comes = (comes, refl)
 
-  may_have : (before after : Known) (ask : Ask) (it : Came) (receipt : Option Covered)
-      (count : Counting) → CameTo stood most before ask it receipt count after →
+  may_have : (before after : Known) (ask : Ask) (it : Came) (last receipt : Option Covered)
+      (count : Counting) → CameTo stood most before ask it last receipt count after →
       MayHaveCome stood before (Ok ask) count after
-  may_have before after ask (cames.Reply reply) receipt count
+  may_have before after ask (cames.Reply reply) last receipt count
       (told, (covers, comes, at, calls, counted), is) = inr (told, Some covers, comes, counted)
-  may_have before after ask cames.Left receipt count (is, sees, none) = inl (sees, none)
-  may_have before after ask cames.Exhausted receipt count late =
+  may_have before after ask (cames.Head head) last receipt count (is, sees, none, by, same) =
+      inl (sees, none)
+  may_have before after ask cames.Left last receipt count (is, sees, none) = inl (sees, none)
+  may_have before after ask cames.Exhausted last receipt count late =
       inl (late.sees, late.uncounted)
-  may_have before after ask cames.Unbooked receipt count (told, comes, calls, counted) =
+  may_have before after ask cames.Unbooked last receipt count (told, comes, calls, counted) =
       inr (told, None, comes, counted)
 
   -- what came of a line was put, or memory ran out
   pub puts_came : (wall : ChineseWall) (before after : Known) (line : Result Ask BadLine)
-      (ask : Ask) (it : Came) (text : List ℕ) (receipt : Option Covered) (count : Counting)
+      (ask : Ask) (it : Came) (text : List ℕ) (last receipt : Option Covered) (count : Counting)
       (r : Result Next OutOfMemory) → line ≡ Ok ask →
-      CameTo stood most before ask it receipt count after →
+      CameTo stood most before ask it last receipt count after →
       IfOk r (λ next. text ≡ line_to wall it) → IfOk r (λ next. next ≡ next_after it) →
-      PutsAnswer stood most wall before line text receipt count after r
-  puts_came wall before after line ask it text receipt count (Ok nx) is came put goes =
-      subst (λ (l : Result Ask BadLine). AnswersSo stood most wall before l text receipt count
+      PutsAnswer stood most wall before line text last receipt count after r
+  puts_came wall before after line ask it text last receipt count (Ok nx) is came put goes =
+      subst (λ (l : Result Ask BadLine). AnswersSo stood most wall before l text last receipt count
       after nx)
       (sym is)
-      (subst (AnswersSo stood most wall before (Ok ask) text receipt count after) (sym goes)
+      (subst (AnswersSo stood most wall before (Ok ask) text last receipt count after) (sym goes)
       (subst
-      (λ (t : List ℕ). AnswersSo stood most wall before (Ok ask) t receipt count after
+      (λ (t : List ℕ). AnswersSo stood most wall before (Ok ask) t last receipt count after
       (next_after it))
-      (sym put) (came_answers wall before after ask it receipt count came)))
-  puts_came wall before after line ask it text receipt count (Err e) is came put goes =
+      (sym put) (came_answers wall before after ask it last receipt count came)))
+  puts_came wall before after line ask it text last receipt count (Err e) is came put goes =
       subst (λ (l : Result Ask BadLine). MayHaveCome stood before l count after) (sym is)
-      (may_have before after ask it receipt count came)
+      (may_have before after ask it last receipt count came)
 
 -- ---- the desk
 
@@ -759,11 +791,19 @@ module _ (stood : ChineseWall → List Entry → Option Covered → Type 0) (mos
   written_then a b c xs ys p q =
       (q.0 ∙ p.0, Appends-trans (contents a) (contents b) (contents c) xs ys p.1 q.1)
 
-  abbrev Since : (before since : Option (List Shown)) → Showing
+  abbrev Since : (before since : Receipts) → Showing
   Since before since = record { before = before; since = since }
 
+  pub shows_then : (p q r : Receipts) (first later : List Shown) → Shows (Since p q) first →
+      Shows (Since q r) later → Shows (Since p r) (later ++ first)
+  shows_then p q r first later s t = record {
+    tells = tells_then p.shown q.shown r.shown first later s.tells t.tells;
+    last = t.last ∙ ap (λ (c : Option Covered). shown_last c later) s.last
+        ∙ sym (last_then p.last later first);
+  }
+
   unfoldable pub so_far_none : (wall : ChineseWall) (before : Known) (text : List Word)
-      (known : Option (List Shown)) (sink : O) (k : ℕ) → wall ≡ before.door.policy →
+      (known : Receipts) (sink : O) (k : ℕ) → wall ≡ before.door.policy →
       Legal wall before.seen →
       SoFar stood most wall before text text (Since known known) (Between sink sink)
       (counting k k) before
@@ -773,7 +813,7 @@ module _ (stood : ChineseWall → List Entry → Option Covered → Type 0) (mos
     acted = acted_none wall before text
         (subst (λ (w : ChineseWall). Legal w before.seen) is legal);
     shows = [];
-    shown = tells_none known;
+    shown = record { tells = tells_none known.shown; last = refl };
     booked = refl;
     counted = none_counted k;
     written = (refl, Appends-nil (contents sink));
@@ -781,80 +821,108 @@ module _ (stood : ChineseWall → List Entry → Option Covered → Type 0) (mos
 
   -- a line's answer is this text, and it is told as the session goes on
   record Telling (wall : ChineseWall) (written : Option (List ℕ)) (before : Known)
-      (line : Result Ask BadLine) (text : List ℕ) (receipt : Option Covered) (count : Counting)
-      (after : Known) (next : Next) : Type 0 where
+      (line : Result Ask BadLine) (text : List ℕ) (last receipt : Option Covered)
+      (count : Counting) (after : Known) (next : Next) : Type 0 where
     told : Told
     says : line ≡ said_by told
     sees : SeesMore before (calls_for before.process told) after
-    booked : AreBooked stood wall written before (told ∷ [])
+    booked : AreBooked stood wall written before last (told ∷ [])
         (shown_next next receipt written) after
+    shown : receipt ≡ shown_last last (shown_next next receipt written)
     counted : Counted (told ∷ []) count
     is : text ≡ answer wall told
 
   telling : (wall : ChineseWall) (written : Option (List ℕ)) (b d : Known)
-      (line : Result Ask BadLine) (text : List ℕ) (receipt : Option Covered) (count : Counting) →
-      AnswersSo stood most wall b line text receipt count d nexts.Replied →
-      Telling wall written b line text receipt count d nexts.Replied
-  telling wall written b d line text receipt count
+      (line : Result Ask BadLine) (text : List ℕ) (last receipt : Option Covered)
+      (count : Counting) →
+      AnswersSo stood most wall b line text last receipt count d nexts.Replied →
+      Telling wall written b line text last receipt count d nexts.Replied
+  telling wall written b d line text last receipt count
       (told, (covers, comes, at, calls, counted), is) =
       let show : Shown = record { covers = covers; written = written } in record {
         told = told;
         says = comes.says;
         sees = comes.sees;
-        booked = subst (λ (k : Option Covered). AreBooked stood wall written b (told ∷ [])
+        booked = subst (λ (k : Option Covered). AreBooked stood wall written b last (told ∷ [])
             (shown_next nexts.Replied k written) d) (sym at) (
               show ∷ [],
               [],
               refl,
               refl,
               is_shown stood wall written b d told covers calls comes.so,
+              no_head last b.process told calls,
             );
+        shown = at ∙ sym (ap (λ (k : Option Covered). shown_last last
+            (shown_next nexts.Replied k written)) at);
         counted = counted;
         is = is;
       }
 
-  telling_bad : (wall : ChineseWall) (written : Option (List ℕ)) (b d : Known)
-      (line : Result Ask BadLine) (text : List ℕ) (receipt : Option Covered) (k l : ℕ) →
-      AnswersSo stood most wall b line text receipt (counting k l) d nexts.GoesOn →
-      Telling wall written b line text receipt (counting k l) d nexts.GoesOn
-  telling_bad wall written b d line text receipt k l (bad, says, sees, none, is) = record {
-    told = asked_nothing bad;
-    says = says;
-    sees = sees;
-    booked = ([], [], refl, refl, refl);
-    counted = counted_bad bad k l none;
-    is = is;
-  }
+  telling_uncalled : (wall : ChineseWall) (written : Option (List ℕ)) (b d : Known)
+      (line : Result Ask BadLine) (text : List ℕ) (last receipt : Option Covered) (k l : ℕ) →
+      AnswersSo stood most wall b line text last receipt (counting k l) d nexts.GoesOn →
+      Telling wall written b line text last receipt (counting k l) d nexts.GoesOn
+  telling_uncalled wall written b d line text last receipt k l
+      (inl (bad, says, is), sees, none, same) = record {
+        told = asked_nothing bad;
+        says = says;
+        sees = sees;
+        booked = ([], [], refl, refl, refl, tt);
+        shown = same;
+        counted = counted_bad bad k l none;
+        is = is;
+      }
+  telling_uncalled wall written b d line text last receipt k l
+      (inr (head, says, is, by), sees, none, same) = record {
+        told = asked_head head;
+        says = says;
+        sees = sees;
+        booked = ([], [], refl, refl, refl, by);
+        shown = same;
+        counted = counted_head head k l none;
+        is = is;
+      }
 
   -- one line more was told
   told_more : (wall : ChineseWall) (a b d : Known) (text later : List Word) (line : Word)
-      (p q r : Option (List Shown)) (old mid : O) (k l m : ℕ) (words : List ℕ)
-      (receipt : Option Covered) (nx : Next) →
+      (p q r : Receipts) (old mid : O) (k l m : ℕ) (words : List ℕ) (nx : Next) →
       (s : SoFar stood most wall a text (line ∷ later) (Since p q) (Between old mid)
       (counting k l) b) →
-      (t : Telling wall (contents mid) b (said wall.dataset_names line) words receipt
+      (t : Telling wall (contents mid) b (said wall.dataset_names line) words q.last r.last
       (counting l m) d nx) →
-      AreBooked stood wall (contents old) a (t.told ∷ s.told)
-      (shown_next nx receipt (contents mid) ++ s.shows) d
-  told_more wall a b d text later line p q r old mid k l m words receipt nx s t =
-      booked_then stood wall (contents old) (contents mid) a b d s.told (t.told ∷ []) s.shows
-      (shown_next nx receipt (contents mid)) s.acted.sees s.written.1 s.booked t.booked
-      t.sees.begins
+      AreBooked stood wall (contents old) a p.last (t.told ∷ s.told)
+      (shown_next nx r.last (contents mid) ++ s.shows) d
+  told_more wall a b d text later line p q r old mid k l m words nx s t =
+      booked_then stood wall (contents old) (contents mid) a b d p.last q.last s.told (t.told ∷ [])
+      s.shows (shown_next nx r.last (contents mid)) s.acted.sees s.written.1 s.shown.last s.booked
+      t.booked t.sees.begins
+
+  -- and what was shown with it
+  shown_more : (wall : ChineseWall) (b d : Known) (line : Result Ask BadLine) (p q r : Receipts)
+      (mid : O) (l m : ℕ) (words : List ℕ) (nx : Next) (shows : List Shown) →
+      Shows (Since p q) shows →
+      Telling wall (contents mid) b line words q.last r.last (counting l m) d nx →
+      Tells q.shown r.shown (shown_next nx r.last (contents mid)) →
+      Shows (Since p r) (shown_next nx r.last (contents mid) ++ shows)
+  shown_more wall b d line p q r mid l m words nx shows s t tells =
+      shows_then p q r shows (shown_next nx r.last (contents mid)) s
+      (record { tells = tells; last = t.shown })
 
   goes_told : (wall : ChineseWall) (a b d : Known) (text later : List Word) (line : Word)
-      (p q r : Option (List Shown)) (old mid new : O) (k l m : ℕ) (words : List ℕ)
-      (receipt : Option Covered) (nx : Next) →
+      (p q r : Receipts) (old mid new : O) (k l m : ℕ) (words : List ℕ) (nx : Next) →
       SoFar stood most wall a text (line ∷ later) (Since p q) (Between old mid) (counting k l) b →
-      Telling wall (contents mid) b (said wall.dataset_names line) words receipt (counting l m) d
-      nx → Tells q r (shown_next nx receipt (contents mid)) → IsWritten (Between mid new) words →
+      Telling wall (contents mid) b (said wall.dataset_names line) words q.last r.last
+      (counting l m) d nx → Tells q.shown r.shown (shown_next nx r.last (contents mid)) →
+      IsWritten (Between mid new) words →
       SoFar stood most wall a text later (Since p r) (Between old new) (counting k m) d
-  goes_told wall a b d text later line p q r old mid new k l m words receipt nx s t shows w = record {
+  goes_told wall a b d text later line p q r old mid new k l m words nx s t shows w = record {
     lines = line ∷ s.lines;
     told = t.told ∷ s.told;
     acted = acted_more wall a b d text s.lines later line s.told t.told s.acted t.says t.sees;
-    shows = shown_next nx receipt (contents mid) ++ s.shows;
-    shown = tells_then p q r s.shows (shown_next nx receipt (contents mid)) s.shown shows;
-    booked = told_more wall a b d text later line p q r old mid k l m words receipt nx s t;
+    shows = shown_next nx r.last (contents mid) ++ s.shows;
+    shown = shown_more wall b d (said wall.dataset_names line) p q r mid l m words nx s.shows
+        s.shown t shows;
+    booked = told_more wall a b d text later line p q r old mid k l m words nx s t;
     counted = counted_more t.told s.told k l m s.counted t.counted;
     written = written_then old mid new (answers wall s.told) (answer wall t.told) s.written
         (subst (IsWritten (Between mid new)) t.is w);
@@ -862,23 +930,21 @@ module _ (stood : ChineseWall → List Entry → Option Covered → Type 0) (mos
 
   -- one line more was answered
   pub goes_on : (wall : ChineseWall) (a b d : Known) (text later : List Word) (line : Word)
-      (p q r : Option (List Shown)) (old mid new : O) (k l m : ℕ) →
+      (p q r : Receipts) (old mid new : O) (k l m : ℕ) →
       SoFar stood most wall a text (line ∷ later) (Since p q) (Between old mid) (counting k l) b →
       WritesAnswer stood most wall b (said wall.dataset_names line) (Since q r) (Between mid new)
       (counting l m) d nexts.Replied
       ⊎ WritesAnswer stood most wall b (said wall.dataset_names line) (Since q r)
       (Between mid new) (counting l m) d nexts.GoesOn →
       SoFar stood most wall a text later (Since p r) (Between old new) (counting k m) d
-  goes_on wall a b d text later line p q r old mid new k l m s
-      (inl (words, (receipt, so, shows), w)) =
-      goes_told wall a b d text later line p q r old mid new k l m words receipt nexts.Replied s
-      (telling wall (contents mid) b d (said wall.dataset_names line) words receipt
+  goes_on wall a b d text later line p q r old mid new k l m s (inl (words, (so, shows), w)) =
+      goes_told wall a b d text later line p q r old mid new k l m words nexts.Replied s
+      (telling wall (contents mid) b d (said wall.dataset_names line) words q.last r.last
       (counting l m) so) shows w
-  goes_on wall a b d text later line p q r old mid new k l m s
-      (inr (words, (receipt, so, shows), w)) =
-      goes_told wall a b d text later line p q r old mid new k l m words receipt nexts.GoesOn s
-      (telling_bad wall (contents mid) b d (said wall.dataset_names line) words receipt l m so)
-      shows w
+  goes_on wall a b d text later line p q r old mid new k l m s (inr (words, (so, shows), w)) =
+      goes_told wall a b d text later line p q r old mid new k l m words nexts.GoesOn s
+      (telling_uncalled wall (contents mid) b d (said wall.dataset_names line) words q.last r.last
+      l m so) shows w
 
   -- memory ran out before the next line
   pub stops_here : (wall : ChineseWall) (a b : Known) (text rest : List Word) (desk : Showing)
@@ -891,7 +957,7 @@ module _ (stood : ChineseWall → List Entry → Option Covered → Type 0) (mos
     untold = None;
     acted = s.acted;
     shows = s.shows;
-    shown = s.shown;
+    shown = s.shown.tells;
     booked = s.booked;
     counted = s.counted;
     stops = s.written;
@@ -909,20 +975,20 @@ module _ (stood : ChineseWall → List Entry → Option Covered → Type 0) (mos
 
   -- the line at hand ends the session
   left_at : (wall : ChineseWall) (a before after : Known) (line next : Word) (later : List Word)
-      (told : List Told) (text : List ℕ) (receipt : Option Covered) (count : Counting) →
-      AnswersSo stood most wall before (said wall.dataset_names line) text receipt count after
+      (told : List Told) (text : List ℕ) (last receipt : Option Covered) (count : Counting) →
+      AnswersSo stood most wall before (said wall.dataset_names line) text last receipt count after
       nexts.Left →
       EndsAt stood (IsSpent most count.now) wall a (line ∷ next ∷ later) told None after Left text
-  left_at wall a before after line next later told text receipt count (says, sees, none, is) =
+  left_at wall a before after line next later told text last receipt count (says, sees, none, is) =
       ((line, next, later, Leave, refl, says, refl), is)
 
   late_at : (wall : ChineseWall) (a before after : Known) (line next : Word) (later : List Word)
-      (told : List Told) (text : List ℕ) (receipt : Option Covered) (count : Counting) →
-      AnswersSo stood most wall before (said wall.dataset_names line) text receipt count after
+      (told : List Told) (text : List ℕ) (last receipt : Option Covered) (count : Counting) →
+      AnswersSo stood most wall before (said wall.dataset_names line) text last receipt count after
       nexts.Exhausted →
       EndsAt stood (IsSpent most count.now) wall a (line ∷ next ∷ later) told None after Exhausted
       text
-  late_at wall a before after line next later told text receipt count (late, is) =
+  late_at wall a before after line next later told text last receipt count (late, is) =
       ((line, next, later, late.ask, refl, late.says, late.calls), late.over, is)
 
   -- what the line at hand came to is not told
@@ -951,14 +1017,15 @@ module _ (stood : ChineseWall → List Entry → Option Covered → Type 0) (mos
 
   -- the answer to a line that is told was not written to its end
   breaks_told : (wall : ChineseWall) (a b d : Known) (text later : List Word) (line after : Word)
-      (p q r : Option (List Shown)) (old mid new : O) (k l m : ℕ) (receipt : Option Covered)
+      (p q r : Receipts) (old mid new : O) (k l m : ℕ)
       (nx : Next) (words : List ℕ) →
       SoFar stood most wall a text (line ∷ after ∷ later) (Since p q) (Between old mid)
       (counting k l) b →
-      Telling wall (contents mid) b (said wall.dataset_names line) words receipt (counting l m) d
-      nx → Tells q r (shown_next nx receipt (contents mid)) → BrokeOff (Between mid new) words →
+      Telling wall (contents mid) b (said wall.dataset_names line) words q.last r.last
+      (counting l m) d nx → Tells q.shown r.shown (shown_next nx r.last (contents mid)) →
+      BrokeOff (Between mid new) words →
       Stops stood most wall a text (Since p r) (Between old new) (counting k m) d WriteFailed
-  breaks_told wall a b d text later line after p q r old mid new k l m receipt nx words s t shows
+  breaks_told wall a b d text later line after p q r old mid new k l m nx words s t shows
       f = record {
         lines = line ∷ s.lines;
         rest = after ∷ later;
@@ -966,9 +1033,10 @@ module _ (stood : ChineseWall → List Entry → Option Covered → Type 0) (mos
         untold = None;
         acted = acted_more wall a b d text s.lines (after ∷ later) line s.told t.told s.acted t.says
             t.sees;
-        shows = shown_next nx receipt (contents mid) ++ s.shows;
-        shown = tells_then p q r s.shows (shown_next nx receipt (contents mid)) s.shown shows;
-        booked = told_more wall a b d text (after ∷ later) line p q r old mid k l m words receipt nx s
+        shows = shown_next nx r.last (contents mid) ++ s.shows;
+        shown = tells_then p.shown q.shown r.shown s.shows (shown_next nx r.last (contents mid))
+            s.shown.tells shows;
+        booked = told_more wall a b d text (after ∷ later) line p q r old mid k l m words nx s
             t;
         counted = counted_more t.told s.told k l m s.counted t.counted;
         stops = (
@@ -985,7 +1053,7 @@ module _ (stood : ChineseWall → List Entry → Option Covered → Type 0) (mos
 
   -- the answer to the line at hand was not written to its end
   breaks_in : (wall : ChineseWall) (a b d : Known) (text later : List Word) (line after : Word)
-      (p q r : Option (List Shown)) (old mid new : O) (k l m : ℕ) (nx : Next)
+      (p q r : Receipts) (old mid new : O) (k l m : ℕ) (nx : Next)
       (words : List ℕ) →
       SoFar stood most wall a text (line ∷ after ∷ later) (Since p q) (Between old mid)
       (counting k l) b →
@@ -993,61 +1061,62 @@ module _ (stood : ChineseWall → List Entry → Option Covered → Type 0) (mos
       (Between mid new) (counting l m) d nx → BrokeOff (Between mid new) words →
       Stops stood most wall a text (Since p r) (Between old new) (counting k m) d WriteFailed
   breaks_in wall a b d text later line after p q r old mid new k l m nexts.Replied words s
-      (receipt, so, shows) f =
-      breaks_told wall a b d text later line after p q r old mid new k l m receipt nexts.Replied
+      (so, shows) f =
+      breaks_told wall a b d text later line after p q r old mid new k l m nexts.Replied
       words s
-      (telling wall (contents mid) b d (said wall.dataset_names line) words receipt
+      (telling wall (contents mid) b d (said wall.dataset_names line) words q.last r.last
       (counting l m) so) shows f
   breaks_in wall a b d text later line after p q r old mid new k l m nexts.GoesOn words s
-      (receipt, so, shows) f =
-      breaks_told wall a b d text later line after p q r old mid new k l m receipt nexts.GoesOn
+      (so, shows) f =
+      breaks_told wall a b d text later line after p q r old mid new k l m nexts.GoesOn
       words s
-      (telling_bad wall (contents mid) b d (said wall.dataset_names line) words receipt l m so)
+      (telling_uncalled wall (contents mid) b d (said wall.dataset_names line) words q.last r.last
+      l m so)
       shows f
   breaks_in wall a b d text later line after p q r old mid new k l m nexts.Left words s
-      (receipt, so, shows) f = record {
+      (so, shows) f = record {
         lines = s.lines;
         rest = line ∷ after ∷ later;
         told = s.told;
         untold = None;
         acted = acted_still wall a b d text s.lines (line ∷ after ∷ later) s.told s.acted so.1;
         shows = s.shows;
-        shown = tells_then p q r s.shows [] s.shown shows;
-        booked = booked_on stood wall (contents old) a b d s.told s.shows so.1.begins s.booked;
+        shown = tells_then p.shown q.shown r.shown s.shows [] s.shown.tells shows;
+        booked = booked_on stood wall (contents old) a b d p.last s.told s.shows so.1.begins s.booked;
         counted = counted_still s.told k l m s.counted so.2;
         stops = (
           f.0 ∙ ap (λ (n : ℕ). n + 1) s.written.0,
           inr (
             Left,
             words,
-            left_at wall a b d line after later s.told words receipt (counting l m) so,
+            left_at wall a b d line after later s.told words q.last r.last (counting l m) so,
             cut_more old mid new (answers wall s.told) words words s.written f.1 refl,
           ),
         );
       }
   breaks_in wall a b d text later line after p q r old mid new k l m nexts.Exhausted words s
-      (receipt, so, shows) f = record {
+      (so, shows) f = record {
         lines = s.lines;
         rest = line ∷ after ∷ later;
         told = s.told;
         untold = None;
         acted = acted_still wall a b d text s.lines (line ∷ after ∷ later) s.told s.acted so.0.sees;
         shows = s.shows;
-        shown = tells_then p q r s.shows [] s.shown shows;
-        booked = booked_on stood wall (contents old) a b d s.told s.shows so.0.sees.begins s.booked;
+        shown = tells_then p.shown q.shown r.shown s.shows [] s.shown.tells shows;
+        booked = booked_on stood wall (contents old) a b d p.last s.told s.shows so.0.sees.begins s.booked;
         counted = counted_still s.told k l m s.counted so.0.uncounted;
         stops = (
           f.0 ∙ ap (λ (n : ℕ). n + 1) s.written.0,
           inr (
             Exhausted,
             words,
-            late_at wall a b d line after later s.told words receipt (counting l m) so,
+            late_at wall a b d line after later s.told words q.last r.last (counting l m) so,
             cut_more old mid new (answers wall s.told) words words s.written f.1 refl,
           ),
         );
       }
   breaks_in wall a b d text later line after p q r old mid new k l m nexts.Unbooked words s
-      (receipt, ((told, comes, calls, counted), is), shows) f = record {
+      (((told, comes, calls, counted), is), shows) f = record {
         lines = line ∷ s.lines;
         rest = after ∷ later;
         told = s.told;
@@ -1055,8 +1124,8 @@ module _ (stood : ChineseWall → List Entry → Option Covered → Type 0) (mos
         acted = acted_more wall a b d text s.lines (after ∷ later) line s.told told s.acted
             comes.says comes.sees;
         shows = s.shows;
-        shown = tells_then p q r s.shows [] s.shown shows;
-        booked = booked_on stood wall (contents old) a b d s.told s.shows comes.sees.begins s.booked;
+        shown = tells_then p.shown q.shown r.shown s.shows [] s.shown.tells shows;
+        booked = booked_on stood wall (contents old) a b d p.last s.told s.shows comes.sees.begins s.booked;
         counted = counted_more told s.told k l m s.counted counted;
         stops = (
           f.0 ∙ ap (λ (n : ℕ). n + 1) s.written.0,
@@ -1075,7 +1144,7 @@ module _ (stood : ChineseWall → List Entry → Option Covered → Type 0) (mos
 
   -- the session ends at the line at hand
   pub breaks_off : (wall : ChineseWall) (a b d : Known) (text later : List Word) (line after : Word)
-      (p q r : Option (List Shown)) (old mid new : O) (k l m : ℕ) (end : SessionEnd) →
+      (p q r : Receipts) (old mid new : O) (k l m : ℕ) (end : SessionEnd) →
       SoFar stood most wall a text (line ∷ after ∷ later) (Since p q) (Between old mid)
       (counting k l) b →
       AnswersLine stood most {X = Unit {0}} wall b (said wall.dataset_names line) (Since q r)
@@ -1085,41 +1154,41 @@ module _ (stood : ChineseWall → List Entry → Option Covered → Type 0) (mos
       (nx, words, so, f) =
       breaks_in wall a b d text later line after p q r old mid new k l m nx words s so f
   breaks_off wall a b d text later line after p q r old mid new k l m Left s
-      (words, (receipt, so, shows), w) = record {
+      (words, (so, shows), w) = record {
         lines = s.lines;
         rest = line ∷ after ∷ later;
         told = s.told;
         untold = None;
         acted = acted_still wall a b d text s.lines (line ∷ after ∷ later) s.told s.acted so.1;
         shows = s.shows;
-        shown = tells_then p q r s.shows [] s.shown shows;
-        booked = booked_on stood wall (contents old) a b d s.told s.shows so.1.begins s.booked;
+        shown = tells_then p.shown q.shown r.shown s.shows [] s.shown.tells shows;
+        booked = booked_on stood wall (contents old) a b d p.last s.told s.shows so.1.begins s.booked;
         counted = counted_still s.told k l m s.counted so.2;
         stops = (
           words,
-          left_at wall a b d line after later s.told words receipt (counting l m) so,
+          left_at wall a b d line after later s.told words q.last r.last (counting l m) so,
           written_then old mid new (answers wall s.told) words s.written w,
         );
       }
   breaks_off wall a b d text later line after p q r old mid new k l m Exhausted s
-      (words, (receipt, so, shows), w) = record {
+      (words, (so, shows), w) = record {
         lines = s.lines;
         rest = line ∷ after ∷ later;
         told = s.told;
         untold = None;
         acted = acted_still wall a b d text s.lines (line ∷ after ∷ later) s.told s.acted so.0.sees;
         shows = s.shows;
-        shown = tells_then p q r s.shows [] s.shown shows;
-        booked = booked_on stood wall (contents old) a b d s.told s.shows so.0.sees.begins s.booked;
+        shown = tells_then p.shown q.shown r.shown s.shows [] s.shown.tells shows;
+        booked = booked_on stood wall (contents old) a b d p.last s.told s.shows so.0.sees.begins s.booked;
         counted = counted_still s.told k l m s.counted so.0.uncounted;
         stops = (
           words,
-          late_at wall a b d line after later s.told words receipt (counting l m) so,
+          late_at wall a b d line after later s.told words q.last r.last (counting l m) so,
           written_then old mid new (answers wall s.told) words s.written w,
         );
       }
   breaks_off wall a b d text later line after p q r old mid new k l m Unbooked s
-      (words, (receipt, ((told, comes, calls, counted), is), shows), w) = record {
+      (words, (((told, comes, calls, counted), is), shows), w) = record {
         lines = line ∷ s.lines;
         rest = after ∷ later;
         told = s.told;
@@ -1127,8 +1196,8 @@ module _ (stood : ChineseWall → List Entry → Option Covered → Type 0) (mos
         acted = acted_more wall a b d text s.lines (after ∷ later) line s.told told s.acted
             comes.says comes.sees;
         shows = s.shows;
-        shown = tells_then p q r s.shows [] s.shown shows;
-        booked = booked_on stood wall (contents old) a b d s.told s.shows comes.sees.begins s.booked;
+        shown = tells_then p.shown q.shown r.shown s.shows [] s.shown.tells shows;
+        booked = booked_on stood wall (contents old) a b d p.last s.told s.shows comes.sees.begins s.booked;
         counted = counted_more told s.told k l m s.counted counted;
         stops = (
           words,
@@ -1148,8 +1217,9 @@ module _ (stood : ChineseWall → List Entry → Option Covered → Type 0) (mos
         untold = None;
         acted = acted_still wall a b d text s.lines (line ∷ after ∷ later) s.told s.acted sees;
         shows = s.shows;
-        shown = subst (λ (k : Option (List Shown)). Tells p k s.shows) (sym none) s.shown;
-        booked = booked_on stood wall (contents old) a b d s.told s.shows sees.begins s.booked;
+        shown = subst (λ (k : Option (List Shown)). Tells p.shown k s.shows) (sym none)
+            s.shown.tells;
+        booked = booked_on stood wall (contents old) a b d p.last s.told s.shows sees.begins s.booked;
         counted = counted_still s.told k l m s.counted none_made;
         stops = subst (λ (o : O). IsWritten (Between old o) (answers wall s.told)) (sym same) s.written;
       }
@@ -1162,8 +1232,9 @@ module _ (stood : ChineseWall → List Entry → Option Covered → Type 0) (mos
         acted = acted_more wall a b d text s.lines (after ∷ later) line s.told told s.acted
             comes.says comes.sees;
         shows = s.shows;
-        shown = subst (λ (k : Option (List Shown)). Tells p k s.shows) (sym none) s.shown;
-        booked = booked_on stood wall (contents old) a b d s.told s.shows comes.sees.begins s.booked;
+        shown = subst (λ (k : Option (List Shown)). Tells p.shown k s.shows) (sym none)
+            s.shown.tells;
+        booked = booked_on stood wall (contents old) a b d p.last s.told s.shows comes.sees.begins s.booked;
         counted = counted_more told s.told k l m s.counted counted;
         stops = subst (λ (o : O). IsWritten (Between old o) (answers wall s.told)) (sym same)
             s.written;
@@ -1175,7 +1246,7 @@ module _ (stood : ChineseWall → List Entry → Option Covered → Type 0) (mos
 
   -- a text was acted on, and then what it goes on with
   unfoldable pub so_far_then : (wall : ChineseWall) (a b d : Known) (bytes more : List ℕ)
-      (line : Word) (rest : List Word) (p q r : Option (List Shown)) (old mid new : O)
+      (line : Word) (rest : List Word) (p q r : Receipts) (old mid new : O)
       (k l m : ℕ) →
       SoFar stood most wall a (parts 10 bytes) (line ∷ []) (Since p q) (Between old mid)
       (counting k l) b →
@@ -1190,9 +1261,9 @@ module _ (stood : ChineseWall → List Entry → Option Covered → Type 0) (mos
         (line ∷ []) rest s.told t.told s.acted t.acted (parts 10 (bytes ++ more))
         (parts_behind bytes more (reverse s.lines) line s.acted.cut);
     shows = t.shows ++ s.shows;
-    shown = tells_then p q r s.shows t.shows s.shown t.shown;
-    booked = booked_then stood wall (contents old) (contents mid) a b d s.told t.told s.shows
-        t.shows s.acted.sees s.written.1 s.booked t.booked t.acted.sees.begins;
+    shown = shows_then p q r s.shows t.shows s.shown t.shown;
+    booked = booked_then stood wall (contents old) (contents mid) a b d p.last q.last s.told t.told
+        s.shows t.shows s.acted.sees s.written.1 s.shown.last s.booked t.booked t.acted.sees.begins;
     counted = counted_then t.told s.told k l m s.counted t.counted;
     written = subst (IsWritten (Between old new)) (sym (answers-append wall t.told s.told))
         (written_then old mid new (answers wall s.told) (answers wall t.told) s.written t.written);
@@ -1303,7 +1374,7 @@ module _ (stood : ChineseWall → List Entry → Option Covered → Type 0) (mos
 
   -- the text that it goes on with was not acted on to its end
   unfoldable pub stops_then : (wall : ChineseWall) (a b d : Known) (bytes more : List ℕ)
-      (line : Word) (p q r : Option (List Shown)) (old mid new : O) (k l m : ℕ)
+      (line : Word) (p q r : Receipts) (old mid new : O) (k l m : ℕ)
       (end : SessionEnd) →
       SoFar stood most wall a (parts 10 bytes) (line ∷ []) (Since p q) (Between old mid)
       (counting k l) b →
@@ -1322,9 +1393,9 @@ module _ (stood : ChineseWall → List Entry → Option Covered → Type 0) (mos
         (line ∷ []) t.rest s.told (and_untold t.untold t.told) s.acted t.acted
         (parts 10 (bytes ++ more)) (parts_behind bytes more (reverse s.lines) line s.acted.cut));
     shows = t.shows ++ s.shows;
-    shown = tells_then p q r s.shows t.shows s.shown t.shown;
-    booked = booked_then stood wall (contents old) (contents mid) a b d s.told t.told s.shows
-        t.shows s.acted.sees s.written.1 s.booked t.booked t.acted.sees.begins;
+    shown = tells_then p.shown q.shown r.shown s.shows t.shows s.shown.tells t.shown;
+    booked = booked_then stood wall (contents old) (contents mid) a b d p.last q.last s.told t.told
+        s.shows t.shows s.acted.sees s.written.1 s.shown.last s.booked t.booked t.acted.sees.begins;
     counted = counted_untold t.untold t.told s.told k l m s.counted t.counted;
     stops = stops_so_then (IsSpent most m) wall a b d old mid new t.rest s.told t.told t.untold end s.acted.sees
         s.written t.stops;
@@ -1341,15 +1412,15 @@ took_none (suc n) buffer e = absurd (omega arith)
 module _ (stood : ChineseWall → List Entry → Option Covered → Type 0) (most : Option ℕ) where
   -- the session goes on: all finished lines of what was read were answered
   pub record Going {S O : Type 0} (heard : S → DeskLog) (wall : ChineseWall)
-      (source : Used S) (sink : Used O) (before : Known) (kept : Unfinished) (calls : ℕ)
-      (now : Known) : Type 0 where
+      (source : Used S) (sink : Used O) (before : Known) (kept : Unfinished)
+      (last : Option Covered) (calls : ℕ) (now : Known) : Type 0 where
     pub bytes : List ℕ
     pub read : Consumes (bytes_before source) (bytes_after source) bytes
     pub went : NeverFailed source
     pub line : Word
     pub holds : Holds kept line
     pub so_far : SoFar stood most wall before (parts 10 bytes) (line ∷ [])
-        (showing heard source.old source.new) sink (counting 0 calls) now
+        (showing heard source.old source.new None last) sink (counting 0 calls) now
     pub prompt : IsPrompt heard wall source sink bytes so_far.told
 
 module _ (stood : ChineseWall → List Entry → Option Covered → Type 0) (most : Option ℕ)
@@ -1363,7 +1434,8 @@ module _ (stood : ChineseWall → List Entry → Option Covered → Type 0) (mos
 
   pub going_none : (wall : ChineseWall) (before : Known) (kept : Unfinished) (source : S)
       (sink : O) → wall ≡ before.door.policy → Legal wall before.seen → Holds kept [] →
-      Going stood most heard wall (Reading source source) (Writing sink sink) before kept 0 before
+      Going stood most heard wall (Reading source source) (Writing sink sink) before kept None 0
+      before
   unfolding so_far_none
   going_none wall before kept source sink is legal h = record {
     bytes = [];
@@ -1371,23 +1443,27 @@ module _ (stood : ChineseWall → List Entry → Option Covered → Type 0) (mos
     went = refl;
     line = [];
     holds = h;
-    so_far = so_far_none stood most failures contents wall before ([] ∷ []) (heard source).shows
-        sink 0 is legal;
+    so_far = so_far_none stood most failures contents wall before ([] ∷ [])
+        (receipts heard source None) sink 0 is legal;
     prompt = prompt_none fails left heard failures contents wall source sink;
   }
 
   -- what was shown, where more was read since and nothing shown
   unfoldable still_shown : (wall : ChineseWall) (a b : Known) (text rest : List Word) (first mid last : S)
-      (sink : Used O) (count : Counting) → (heard last).shows ≡ (heard mid).shows →
-      SoFar stood most wall a text rest (showing heard first mid) sink count b →
-      SoFar stood most wall a text rest (showing heard first last) sink count b
-  still_shown wall a b text rest first mid last sink count same s = record {
+      (c : Option Covered) (sink : Used O) (count : Counting) →
+      (heard last).shows ≡ (heard mid).shows →
+      SoFar stood most wall a text rest (showing heard first mid None c) sink count b →
+      SoFar stood most wall a text rest (showing heard first last None c) sink count b
+  still_shown wall a b text rest first mid last c sink count same s = record {
     lines = s.lines;
     told = s.told;
     acted = s.acted;
     shows = s.shows;
-    shown = subst (λ (k : Option (List Shown)). Tells (heard first).shows k s.shows) (sym same)
-        s.shown;
+    shown = record {
+      tells = subst (λ (k : Option (List Shown)). Tells (heard first).shows k s.shows) (sym same)
+          s.shown.tells;
+      last = s.shown.last;
+    };
     booked = s.booked;
     counted = s.counted;
     written = s.written;
@@ -1395,19 +1471,20 @@ module _ (stood : ChineseWall → List Entry → Option Covered → Type 0) (mos
 
   -- more was read and acted on
   pub going_on : (wall : ChineseWall) (a b d : Known) (kept now : Unfinished)
-      (first mid last far : S) (old out new : O) (l m : ℕ) (more : List ℕ) →
-      (g : Going stood most heard wall (Reading first mid) (Writing old out) a kept l b) →
+      (first mid last far : S) (old out new : O) (c e : Option Covered) (l m : ℕ)
+      (more : List ℕ) →
+      (g : Going stood most heard wall (Reading first mid) (Writing old out) a kept c l b) →
       fails last ≡ fails mid → Consumes (left mid) (left last) more →
       Tells (heard mid).reads (heard last).reads
       (record { bytes = more; written = contents out } ∷ []) →
       (heard last).shows ≡ (heard mid).shows → IsUnread fails left heard last far →
       (line : Word) → Holds now line →
-      SoFar stood most wall b (behind g.line (parts 10 more)) (line ∷ []) (showing heard last far)
-      (Writing out new) (counting l m) d →
-      Going stood most heard wall (Reading first far) (Writing old new) a now m d
+      SoFar stood most wall b (behind g.line (parts 10 more)) (line ∷ [])
+      (showing heard last far c e) (Writing out new) (counting l m) d →
+      Going stood most heard wall (Reading first far) (Writing old new) a now e m d
   unfolding so_far_then still_shown
-  going_on wall a b d kept now first mid last far old out new l m more g went read tells same unread
-      line h s = record {
+  going_on wall a b d kept now first mid last far old out new c e l m more g went read tells same
+      unread line h s = record {
         bytes = g.bytes ++ more;
         read = subst (λ (k : Option (List ℕ)). Consumes (left first) k (g.bytes ++ more))
             (sym unread.left_same)
@@ -1416,19 +1493,19 @@ module _ (stood : ChineseWall → List Entry → Option Covered → Type 0) (mos
         line = line;
         holds = h;
         so_far = so_far_then stood most failures contents wall a b d g.bytes more g.line (line ∷ [])
-            (heard first).shows (heard last).shows (heard far).shows old out new 0 l m
-            (still_shown wall a b (parts 10 g.bytes) (g.line ∷ []) first mid last (Writing old out)
-            (counting 0 l) same g.so_far) s;
+            (receipts heard first None) (receipts heard last c) (receipts heard far e) old out new 0
+            l m (still_shown wall a b (parts 10 g.bytes) (g.line ∷ []) first mid last c
+            (Writing old out) (counting 0 l) same g.so_far) s;
         prompt = prompt_unread fails left heard failures contents wall first last far old new
             (g.bytes ++ more) (s.told ++ g.so_far.told) unread.reads_same
             (prompt_more stood most fails left heard failures contents wall a b first mid last old out
-            new g.bytes more g.line (showing heard first mid) (counting 0 l) g.so_far g.prompt
+            new g.bytes more g.line (showing heard first mid None c) (counting 0 l) g.so_far g.prompt
             tells s.told);
       }
 
   pub served_to_end : (wall : ChineseWall) (a b : Known) (kept : Unfinished) (first mid last : S)
-      (old new : O) (calls : ℕ) (more : List ℕ) → more ≡ [] →
-      Going stood most heard wall (Reading first mid) (Writing old new) a kept calls b →
+      (old new : O) (c : Option Covered) (calls : ℕ) (more : List ℕ) → more ≡ [] →
+      Going stood most heard wall (Reading first mid) (Writing old new) a kept c calls b →
       IsWithin most calls →
       fails last ≡ fails mid → Consumes (left mid) (left last) more → IsAtEnd (left last) →
       Tells (heard mid).reads (heard last).reads
@@ -1437,10 +1514,10 @@ module _ (stood : ChineseWall → List Entry → Option Covered → Type 0) (mos
       Serves stood most heard wall (Reading first last) (Writing old new) a b
       (record { end = EndOfStream; calls = calls })
   unfolding still_shown
-  served_to_end wall a b kept first mid last old new calls more none g within went read end tells
+  served_to_end wall a b kept first mid last old new c calls more none g within went read end tells
       same =
       let all = ap (λ l. g.bytes ++ l) none ∙ append-nil g.bytes in
-      let s = still_shown wall a b (parts 10 g.bytes) (g.line ∷ []) first mid last
+      let s = still_shown wall a b (parts 10 g.bytes) (g.line ∷ []) first mid last c
       (Writing old new) (counting 0 calls) same g.so_far in record {
         bytes = g.bytes;
         read = subst (Consumes (left first) (left last)) all
@@ -1451,28 +1528,28 @@ module _ (stood : ChineseWall → List Entry → Option Covered → Type 0) (mos
         untold = None;
         acted = g.so_far.acted;
         shows = s.shows;
-        shown = s.shown;
+        shown = s.shown.tells;
         booked = s.booked;
         prompt = subst (λ (l : List ℕ). IsPrompt heard wall (Reading first last) (Writing old new) l
             g.so_far.told) all
             (prompt_more stood most fails left heard failures contents wall a b first mid last old new
-            new g.bytes more g.line (showing heard first mid) (counting 0 calls) g.so_far g.prompt
-            tells []);
+            new g.bytes more g.line (showing heard first mid None c) (counting 0 calls) g.so_far
+            g.prompt tells []);
         counted = counted_all g.so_far.told calls g.so_far.counted;
         within = within;
         ends = (went ∙ g.went, end, refl, refl, g.so_far.written);
       }
 
   pub served_till_fault : (wall : ChineseWall) (a b : Known) (kept : Unfinished)
-      (first mid last : S) (old new : O) (calls : ℕ) →
-      Going stood most heard wall (Reading first mid) (Writing old new) a kept calls b →
+      (first mid last : S) (old new : O) (c : Option Covered) (calls : ℕ) →
+      Going stood most heard wall (Reading first mid) (Writing old new) a kept c calls b →
       IsWithin most calls →
       fails last ≡ fails mid + 1 → Keeps (left mid) (left last) →
       Tells (heard mid).reads (heard last).reads [] → (heard last).shows ≡ (heard mid).shows →
       Serves stood most heard wall (Reading first last) (Writing old new) a b
       (record { end = ReadFailed; calls = calls })
   unfolding still_shown
-  served_till_fault wall a b kept first mid last old new calls g within once keeps tells same = record {
+  served_till_fault wall a b kept first mid last old new c calls g within once keeps tells same = record {
     bytes = g.bytes;
     read = Consumes-kept (left first) (left mid) (left last) g.bytes g.read keeps;
     lines = g.so_far.lines;
@@ -1481,8 +1558,8 @@ module _ (stood : ChineseWall → List Entry → Option Covered → Type 0) (mos
     untold = None;
     acted = g.so_far.acted;
     shows = g.so_far.shows;
-    shown = (still_shown wall a b (parts 10 g.bytes) (g.line ∷ []) first mid last
-        (Writing old new) (counting 0 calls) same g.so_far).shown;
+    shown = (still_shown wall a b (parts 10 g.bytes) (g.line ∷ []) first mid last c
+        (Writing old new) (counting 0 calls) same g.so_far).shown.tells;
     booked = g.so_far.booked;
     prompt = prompt_still fails left heard failures contents wall first mid last old new g.bytes
         g.so_far.told g.prompt tells;
@@ -1506,23 +1583,24 @@ module _ (stood : ChineseWall → List Entry → Option Covered → Type 0) (mos
   ends_so spent wall first last old new before rest told untold after EndOfStream went h = absurd h
 
   pub served_till_stop : (wall : ChineseWall) (a b d : Known) (kept : Unfinished)
-      (first mid last far : S) (old out new : O) (l m : ℕ) (more : List ℕ) (end : SessionEnd) →
-      (g : Going stood most heard wall (Reading first mid) (Writing old out) a kept l b) →
+      (first mid last far : S) (old out new : O) (c e : Option Covered) (l m : ℕ)
+      (more : List ℕ) (end : SessionEnd) →
+      (g : Going stood most heard wall (Reading first mid) (Writing old out) a kept c l b) →
       IsWithin most m →
       fails last ≡ fails mid → Consumes (left mid) (left last) more →
       Tells (heard mid).reads (heard last).reads
       (record { bytes = more; written = contents out } ∷ []) →
       (heard last).shows ≡ (heard mid).shows → IsUnread fails left heard last far →
-      Stops stood most wall b (behind g.line (parts 10 more)) (showing heard last far)
+      Stops stood most wall b (behind g.line (parts 10 more)) (showing heard last far c e)
       (Writing out new) (counting l m) d end →
       Serves stood most heard wall (Reading first far) (Writing old new) a d
       (record { end = end; calls = m })
   unfolding stops_then still_shown
-  served_till_stop wall a b d kept first mid last far old out new l m more end g within went read
-      tells same unread stops =
+  served_till_stop wall a b d kept first mid last far old out new c e l m more end g within went
+      read tells same unread stops =
       let s = stops_then stood most failures contents wall a b d g.bytes more g.line
-      (heard first).shows (heard last).shows (heard far).shows old out new 0 l m end
-      (still_shown wall a b (parts 10 g.bytes) (g.line ∷ []) first mid last (Writing old out)
+      (receipts heard first None) (receipts heard last c) (receipts heard far e) old out new 0 l m
+      end (still_shown wall a b (parts 10 g.bytes) (g.line ∷ []) first mid last c (Writing old out)
       (counting 0 l) same g.so_far) stops in record {
         bytes = g.bytes ++ more;
         read = subst (λ (k : Option (List ℕ)). Consumes (left first) k (g.bytes ++ more))
@@ -1539,8 +1617,8 @@ module _ (stood : ChineseWall → List Entry → Option Covered → Type 0) (mos
         prompt = prompt_unread fails left heard failures contents wall first last far old new
             (g.bytes ++ more) s.told unread.reads_same
             (prompt_more stood most fails left heard failures contents wall a b first mid last old
-            out new g.bytes more g.line (showing heard first mid) (counting 0 l) g.so_far g.prompt
-            tells stops.told);
+            out new g.bytes more g.line (showing heard first mid None c) (counting 0 l) g.so_far
+            g.prompt tells stops.told);
         counted = counted_all (and_untold s.untold s.told) m s.counted;
         within = within;
         ends = ends_so (IsSpent most m) wall first far old new a s.rest s.told s.untold d end

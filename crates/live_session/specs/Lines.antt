@@ -1,12 +1,16 @@
 -- What a finished line of a live session says, and the lines that answer where no call was made.
 -- (Own format.)
-use Rattle.std.specs.Prelude.{ℕ, nat_lt, List, length, codes, Result, Ok, Err, if◌then◌else◌}
+use Rattle.std.specs.Prelude.{ℕ, nat_lt, List, ◌++◌, length, codes, Option, Some, None, Result, Ok}
+use Rattle.std.specs.Prelude.{Err, if◌then◌else◌}
+use Rattle.std.specs.Fmt.{decimal}
+use Rattle.hex.specs.Hex.{encode_lower}
 use Rattle.coll_text.specs.declared.fault.LineFault.{LineFault}
 use Rattle.coll_text.specs.declared.fault.LineFault.TheVariants as faults
 use Rattle.coll_text.specs.Numbers.{Word}
 use Rattle.hall_script.specs.declared.ask.Ask.{Ask}
 use Rattle.hall_script.specs.Asks.{ask_said}
 use Rattle.hall_script.specs.Scripts.{trimmed}
+use Rattle.hall_turn.specs.declared.head.Head.{Head}
 use Rattle.live_session.specs.declared.line.BadLine.{BadLine}
 use Rattle.live_session.specs.declared.line.BadLine.TheVariants.{TooLong, NoAsk}
 
@@ -37,6 +41,12 @@ bad_line (NoAsk faults.BadLabel) = codes "bad BadLabel\n"
 bad_line (NoAsk faults.BadNumber) = codes "bad BadNumber\n"
 bad_line (NoAsk faults.OddPair) = codes "bad OddPair\n"
 bad_line (NoAsk faults.NoMemory) = codes "bad NoMemory\n"
+
+-- the answer to `head`: how far the book had come, if there is one; the digest has 64 hex digits
+abbrev pub head_line : Option Head → List ℕ
+head_line None = codes "head 0 -\n"
+head_line (Some head) = codes "head " ++ decimal head.entries ++ codes " "
+    ++ encode_lower head.digest ++ codes "\n"
 
 -- the answer to `leave`
 abbrev pub left_line : List ℕ

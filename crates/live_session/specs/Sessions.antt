@@ -14,12 +14,14 @@ use Rattle.run_model.specs.declared.reply.Reply.TheVariants.{Pending}
 use Rattle.run_model.specs.Runs.{Entry, entry}
 use Rattle.run_model.specs.Replies.{Legal}
 use Rattle.hall_script.specs.declared.ask.Ask.{Ask}
-use Rattle.hall_script.specs.declared.ask.Ask.TheVariants.{Act as ToAct, Wait, Leave}
+use Rattle.hall_script.specs.declared.ask.Ask.TheVariants.{Act as ToAct, Wait, Head as AskHead}
+use Rattle.hall_script.specs.declared.ask.Ask.TheVariants.{Leave}
 use Rattle.hall_script.specs.Devices.{Used, bytes_before, bytes_after, NeverFailed, FailedOnce}
 use Rattle.hall_script.specs.Devices.{IsUntouched, IsWritten}
 use Rattle.hall_script.specs.Replies.{reply_line}
 use Rattle.hall_turn.specs.Runs.{Continues, calls_of}
-use Rattle.hall_turn.specs.Receipts.{Covered}
+use Rattle.hall_turn.specs.declared.head.Head.{Head}
+use Rattle.hall_turn.specs.Receipts.{Covered, IsHeadAt}
 use Rattle.hall_turn.specs.Known.{Known}
 use Rattle.hall_turn.specs.Answers.{IsSamePass}
 use Rattle.live_session.specs.declared.line.BadLine.{BadLine}
@@ -29,22 +31,26 @@ use Rattle.live_session.specs.declared.ending.SessionEnd.TheVariants.{EndOfStrea
 use Rattle.live_session.specs.declared.ending.SessionEnd.TheVariants.{ReadFailed, WriteFailed}
 use Rattle.live_session.specs.declared.ending.SessionEnd.TheVariants.{Exhausted, Unbooked}
 use Rattle.live_session.specs.declared.ending.SessionEnd.TheVariants.{NoMemory}
-use Rattle.live_session.specs.Lines.{said, bad_line, left_line, exhausted_line, unbooked_line}
+use Rattle.live_session.specs.Lines.{said, bad_line, head_line, left_line, exhausted_line}
+use Rattle.live_session.specs.Lines.{unbooked_line}
 use Rattle.live_session.specs.Hearing.{DeskLog, Heard, Shown, Tells, text_of}
 
 -- ---- lines and their answers
 
 -- What a line came to: its act was done, with this reply; or its request was taken again and again,
--- so often answered Pending, and then with this reply; or it asks for nothing.
+-- so often answered Pending, and then with this reply; or it asked for the head of the book, and this
+-- was told; or it asks for nothing.
 pub data Told : Type 0 where
   done : (act : Act) → (reply : Reply) → Told
   waited : (request again : ℕ) → (reply : Reply) → Told
+  asked_head : (head : Option Head) → Told
   asked_nothing : (bad : BadLine) → Told
 
 -- what the line says
 abbrev pub said_by : Told → Result Ask BadLine
 said_by (done act reply) = Ok (ToAct act)
 said_by (waited request again reply) = Ok (Wait request)
+said_by (asked_head head) = Ok AskHead
 said_by (asked_nothing bad) = Err bad
 
 -- the entry of a call
@@ -56,6 +62,7 @@ abbrev pub calls_for : (process : ℕ) → Told → List Entry
 calls_for process (done act reply) = called process act reply ∷ []
 calls_for process (waited request again reply) = called process (Take request) reply
     ∷ replicate again (called process (Take request) Pending)
+calls_for process (asked_head head) = []
 calls_for process (asked_nothing bad) = []
 
 -- the calls that were made for all lines
@@ -63,10 +70,11 @@ abbrev pub made : (process : ℕ) → List Told → List Entry
 made process [] = []
 made process (told ∷ past) = calls_for process told ++ made process past
 
--- the line that answers a line: that of the reply, or that of its fault
+-- the line that answers a line: that of the reply or the head, or that of its fault
 abbrev pub answer : ChineseWall → Told → List ℕ
 answer wall (done act reply) = reply_line wall reply
 answer wall (waited request again reply) = reply_line wall reply
+answer wall (asked_head head) = head_line head
 answer wall (asked_nothing bad) = bad_line bad
 
 -- the answers, the first one first
@@ -76,10 +84,11 @@ answers wall (told ∷ past) = answers wall past ++ answer wall told
 
 -- ---- counts
 
--- a line counts as one call, if it asks for one: a wait too, however often it took the request
+-- A line counts as one call, if it asks for one: a wait too, however often it took the request.
 abbrev pub counts_as : Told → ℕ
 counts_as (done act reply) = 1
 counts_as (waited request again reply) = 1
+counts_as (asked_head head) = 0
 counts_as (asked_nothing bad) = 0
 
 -- how many calls these lines made
@@ -147,7 +156,36 @@ Stood {M = M} stands booked_by wall run booked =
 abbrev pub last_call : (process : ℕ) → Told → Option Entry
 last_call process (done act reply) = Some (called process act reply)
 last_call process (waited request again reply) = Some (called process (Take request) reply)
+last_call process (asked_head head) = None
 last_call process (asked_nothing bad) = None
+
+-- a line that asks for a call
+abbrev pub AsksForCall : Ask → Type 0
+AsksForCall (ToAct act) = Unit {0}
+AsksForCall (Wait request) = Unit {0}
+AsksForCall AskHead = ⊥
+AsksForCall Leave = ⊥
+
+-- ---- heads
+
+-- what the receipt covers that was shown last: the newest of these, or, where there is none, the last
+-- one before
+abbrev pub shown_last : (before : Option Covered) → List Shown → Option Covered
+shown_last before [] = before
+shown_last before (show ∷ past) = Some show.covers
+
+-- This head is that of the receipt that was shown last: so many entries the book had when it was
+-- given, and this was the digest of its text. None where no receipt was shown, or no book is kept.
+abbrev pub IsHeadBy : (last : Option Covered) → Option Head → Type 0
+IsHeadBy None head = head ≡ None
+IsHeadBy (Some covers) head = IsHeadAt covers.extent head
+
+-- so it is with the head that the line was told, if it asks for one
+abbrev pub TellsHead : (last : Option Covered) → Told → Type 0
+TellsHead last (done act reply) = Unit {0}
+TellsHead last (waited request again reply) = Unit {0}
+TellsHead last (asked_head head) = IsHeadBy last head
+TellsHead last (asked_nothing bad) = Unit {0}
 
 module _ (stood : ChineseWall → List Entry → Option Covered → Type 0) where
   -- At the end of this call's turn the machine stood for the run that ends with the call, and its
@@ -179,15 +217,17 @@ module _ (stood : ChineseWall → List Entry → Option Covered → Type 0) wher
       × Appends written show.written (answers wall past)
 
   -- No reply is told before the book has its entries: of each of these lines the desk was shown the
-  -- receipt first, by which it has.
+  -- receipt first, by which it has. A head that was told is that of the receipt shown last; what is
+  -- known of the last one before these lines is given.
   abbrev pub AreBooked : ChineseWall → (written : Option (List ℕ)) → (before : Known) →
-      List Told → List Shown → (after : Known) → Type 0
-  AreBooked wall written before [] shows after = shows ≡ []
-  AreBooked wall written before (told ∷ past) shows after = (newest : List Shown)
+      (last : Option Covered) → List Told → List Shown → (after : Known) → Type 0
+  AreBooked wall written before last [] shows after = shows ≡ []
+  AreBooked wall written before last (told ∷ past) shows after = (newest : List Shown)
       × (earlier : List Shown) × (shows ≡ newest ++ earlier)
-      × AreBooked wall written before past earlier after
+      × AreBooked wall written before last past earlier after
       × IsShown wall written before (last_call before.process told)
       (made before.process (told ∷ past)) past newest after
+      × TellsHead (shown_last last earlier) told
 
   -- The newest line was acted on, and is not told what it came to: behind its last call the machine
   -- was not booked.
@@ -211,7 +251,7 @@ module _ (stood : ChineseWall → List Entry → Option Covered → Type 0) (spe
   EndsAt wall before rest told None after Left text =
       BeginsWith wall (λ ask. ask ≡ Leave) rest × (text ≡ left_line)
   EndsAt wall before rest told None after Exhausted text =
-      BeginsWith wall (λ ask. ask ≢ Leave) rest × (spent ⊎ (2 ^ 62 ≤ length after.seen))
+      BeginsWith wall AsksForCall rest × (spent ⊎ (2 ^ 62 ≤ length after.seen))
       × (text ≡ exhausted_line)
   EndsAt wall before rest told (Some newest) after Unbooked text =
       EndsUnbooked stood before rest told newest after × (text ≡ unbooked_line)
@@ -283,7 +323,8 @@ pub record IsPrompt {S O : Type 0} (heard : S → DeskLog) (wall : ChineseWall)
 module _ (stood : ChineseWall → List Entry → Option Covered → Type 0) (most : Option ℕ) where
   -- What a session came to: the bytes that it was handed, cut at each LF, are the lines that it
   -- acted on and a rest; what was written are the answers to these lines, in order, each before the
-  -- next read, and no reply before the desk was shown by a receipt that the book has its entries.
+  -- next read, and no reply before the desk was shown by a receipt that the book has its entries; what
+  -- was told of the book's head is what that of the last call says.
   -- Of the lines that were acted on the newest may not be told. The calls that it made were
   -- counted, and are no more than it may make: where it has made so many, the next line that asks
   -- for a call is not acted on.
@@ -298,7 +339,7 @@ module _ (stood : ChineseWall → List Entry → Option Covered → Type 0) (mos
     pub acted : Acted wall before (parts 10 bytes) lines rest (and_untold untold told) after
     pub shows : List Shown
     pub shown : Tells (heard source.old).shows (heard source.new).shows shows
-    pub booked : AreBooked stood wall (bytes_before sink) before told shows after
+    pub booked : AreBooked stood wall (bytes_before sink) before None told shows after
     pub prompt : IsPrompt heard wall source sink bytes told
     pub counted : closing.calls ≡ calls_in (and_untold untold told)
     pub within : IsWithin most closing.calls

@@ -8,12 +8,13 @@ use Rattle.coll_text.specs.Numbers.{Word}
 use Rattle.run_model.specs.declared.reply.Reply.{Reply}
 use Rattle.run_model.specs.Known.{IsKnownReply}
 use Rattle.hall_script.specs.declared.ask.Ask.{Ask}
-use Rattle.hall_script.specs.declared.ask.Ask.TheVariants.{Wait, Leave}
+use Rattle.hall_script.specs.declared.ask.Ask.TheVariants.{Wait, Head as AskHead, Leave}
 use Rattle.hall_script.specs.Devices.{Used, bytes_before, IsUntouched, FailedOnce, IsWritten}
 use Rattle.hall_script.specs.Devices.{BrokeOff}
 use Rattle.hall_script.specs.Replies.{reply_line}
 use Rattle.hall_turn.specs.declared.answer.Answer.{Answer}
 use Rattle.hall_turn.specs.declared.answer.Answer.TheVariants.{Reply as Replied, Exhausted as Late}
+use Rattle.hall_turn.specs.declared.head.Head.{Head}
 use Rattle.hall_turn.specs.Receipts.{Covered}
 use Rattle.hall_turn.specs.Runs.{calls_of}
 use Rattle.hall_turn.specs.Known.{Known}
@@ -28,8 +29,10 @@ use Rattle.live_session.specs.declared.acting.Came.{Came}
 use Rattle.live_session.specs.declared.acting.Came.TheVariants as cames
 use Rattle.live_session.specs.declared.answer.Next.{Next}
 use Rattle.live_session.specs.declared.answer.Next.TheVariants as nexts
-use Rattle.live_session.specs.Lines.{line_limit, left_line, exhausted_line, unbooked_line}
-use Rattle.live_session.specs.Sessions.{Told, done, waited, asked_nothing, said_by, calls_for}
+use Rattle.live_session.specs.Lines.{line_limit, head_line, left_line, exhausted_line}
+use Rattle.live_session.specs.Lines.{unbooked_line}
+use Rattle.live_session.specs.Sessions.{Told, done, waited, asked_head, asked_nothing, said_by}
+use Rattle.live_session.specs.Sessions.{calls_for, AsksForCall, IsHeadBy, shown_last}
 use Rattle.live_session.specs.Sessions.{answer, answers, SeesMore, Acted, and_untold, last_call}
 use Rattle.live_session.specs.Hearing.{DeskLog, Shown, Tells}
 use Rattle.live_session.specs.Sessions.{StoodFor, AreBooked, SaysLast, BreaksOff}
@@ -54,14 +57,30 @@ Reads line (Err error) = IsOk line
 
 -- ---- the desk
 
--- the receipts that a desk was shown before, and those since
-pub record Showing : Type 0 where
-  pub before : Option (List Shown)
-  pub since : Option (List Shown)
+-- the receipts that a desk was shown, as far as it tells, and what the last one covers, if there was
+-- one
+pub record Receipts : Type 0 where
+  pub shown : Option (List Shown)
+  pub last : Option Covered
 
--- those of this desk, as it was and as it is
-abbrev pub showing : {S : Type 0} → (S → DeskLog) → (old new : S) → Showing
-showing heard old new = record { before = (heard old).shows; since = (heard new).shows }
+-- those before, and those by now
+pub record Showing : Type 0 where
+  pub before : Receipts
+  pub since : Receipts
+
+-- those of this desk
+abbrev pub receipts : {S : Type 0} → (S → DeskLog) → S → (last : Option Covered) → Receipts
+receipts heard desk last = record { shown = (heard desk).shows; last = last }
+
+abbrev pub showing : {S : Type 0} → (S → DeskLog) → (old new : S) → (before now : Option Covered)
+    → Showing
+showing heard old new before now =
+    record { before = receipts heard old before; since = receipts heard new now }
+
+-- since then these were shown
+pub record Shows (desk : Showing) (shows : List Shown) : Type 0 where
+  pub tells : Tells desk.before.shown desk.since.shown shows
+  pub last : desk.since.last ≡ shown_last desk.before.last shows
 
 -- nothing was read
 pub record IsUnread {S : Type 0} (fails : S → ℕ) (left : S → Option (List ℕ))
@@ -119,7 +138,7 @@ pub record ComesTooLate (most : Option ℕ) (before : Known) (line : Result Ask 
     (count : Counting) (after : Known) : Type 0 where
   pub ask : Ask
   pub says : line ≡ Ok ask
-  pub calls : ask ≢ Leave
+  pub calls : AsksForCall ask
   pub sees : SeesMore before [] after
   pub uncounted : IsUncounted count
   pub over : IsOver most count.now after.seen
@@ -128,6 +147,7 @@ pub record ComesTooLate (most : Option ℕ) (before : Known) (line : Result Ask 
 abbrev pub reply_to : Told → Option Reply
 reply_to (done act reply) = Some reply
 reply_to (waited request again reply) = Some reply
+reply_to (asked_head head) = None
 reply_to (asked_nothing bad) = None
 
 -- what a line came to whose last call was answered so, with the machine booked or not
@@ -138,6 +158,7 @@ came_of Late booked = cames.Exhausted
 
 abbrev pub CameNamesKnown : ChineseWall → Came → Type 0
 CameNamesKnown wall (cames.Reply reply) = IsKnownReply wall reply
+CameNamesKnown wall (cames.Head head) = Unit {0}
 CameNamesKnown wall cames.Left = Unit {0}
 CameNamesKnown wall cames.Exhausted = Unit {0}
 CameNamesKnown wall cames.Unbooked = Unit {0}
@@ -145,6 +166,7 @@ CameNamesKnown wall cames.Unbooked = Unit {0}
 -- the line that answers what came of it
 abbrev pub line_to : ChineseWall → Came → List ℕ
 line_to wall (cames.Reply reply) = reply_line wall reply
+line_to wall (cames.Head head) = head_line head
 line_to wall cames.Left = left_line
 line_to wall cames.Exhausted = exhausted_line
 line_to wall cames.Unbooked = unbooked_line
@@ -152,6 +174,7 @@ line_to wall cames.Unbooked = unbooked_line
 -- how the session goes on after that
 abbrev pub next_after : Came → Next
 next_after (cames.Reply reply) = nexts.Replied
+next_after (cames.Head head) = nexts.GoesOn
 next_after cames.Left = nexts.Left
 next_after cames.Exhausted = nexts.Exhausted
 next_after cames.Unbooked = nexts.Unbooked
@@ -194,47 +217,60 @@ module _ (stood : ChineseWall → List Entry → Option Covered → Type 0) wher
   Waited before request Late receipt after = SeesMore before [] after × (2 ^ 62 ≤ length after.seen)
 
 module _ (stood : ChineseWall → List Entry → Option Covered → Type 0) (most : Option ℕ) where
-  -- what a line came to that asks for something
-  abbrev pub CameTo : (before : Known) → Ask → Came → (receipt : Option Covered) → Counting →
-      (after : Known) → Type 0
-  CameTo before ask (cames.Reply reply) receipt count after = (told : Told)
+  -- what a line came to that asks for something; `last` is what the last receipt covered before
+  abbrev pub CameTo : (before : Known) → Ask → Came → (last receipt : Option Covered) →
+      Counting → (after : Known) → Type 0
+  CameTo before ask (cames.Reply reply) last receipt count after = (told : Told)
       × ComesBooked stood before (Ok ask) told receipt count after × (reply_to told ≡ Some reply)
-  CameTo before ask cames.Left receipt count after =
+  CameTo before ask (cames.Head head) last receipt count after =
+      (ask ≡ AskHead) × SeesMore before [] after × IsUncounted count × IsHeadBy last head
+      × (receipt ≡ last)
+  CameTo before ask cames.Left last receipt count after =
       (ask ≡ Leave) × SeesMore before [] after × IsUncounted count
-  CameTo before ask cames.Exhausted receipt count after =
+  CameTo before ask cames.Exhausted last receipt count after =
       ComesTooLate most before (Ok ask) count after
-  CameTo before ask cames.Unbooked receipt count after =
+  CameTo before ask cames.Unbooked last receipt count after =
       ComesUnbooked stood before (Ok ask) count after
+
+  -- the line asks for no call, and this text answers it: it asks for the head, or for nothing
+  abbrev pub AnswersUncalled : ChineseWall → Result Ask BadLine → (text : List ℕ) →
+      (last : Option Covered) → Type 0
+  AnswersUncalled wall line text last =
+      ((bad : BadLine) × (line ≡ Err bad) × (text ≡ answer wall (asked_nothing bad)))
+      ⊎ ((head : Option Head) × (line ≡ Ok AskHead) × (text ≡ answer wall (asked_head head))
+      × IsHeadBy last head)
 
   -- the text answers the line, and the session goes on so
   abbrev pub AnswersSo : ChineseWall → (before : Known) → Result Ask BadLine → (text : List ℕ) →
-      (receipt : Option Covered) → Counting → (after : Known) → Next → Type 0
-  AnswersSo wall before line text receipt count after nexts.Replied = (told : Told)
+      (last receipt : Option Covered) → Counting → (after : Known) → Next → Type 0
+  AnswersSo wall before line text last receipt count after nexts.Replied = (told : Told)
       × ComesBooked stood before line told receipt count after × (text ≡ answer wall told)
-  AnswersSo wall before line text receipt count after nexts.GoesOn = (bad : BadLine)
-      × (line ≡ Err bad) × SeesMore before [] after × IsUncounted count
-      × (text ≡ answer wall (asked_nothing bad))
-  AnswersSo wall before line text receipt count after nexts.Left =
+  AnswersSo wall before line text last receipt count after nexts.GoesOn =
+      AnswersUncalled wall line text last × SeesMore before [] after × IsUncounted count
+      × (receipt ≡ last)
+  AnswersSo wall before line text last receipt count after nexts.Left =
       (line ≡ Ok Leave) × SeesMore before [] after × IsUncounted count × (text ≡ left_line)
-  AnswersSo wall before line text receipt count after nexts.Exhausted =
+  AnswersSo wall before line text last receipt count after nexts.Exhausted =
       ComesTooLate most before line count after × (text ≡ exhausted_line)
-  AnswersSo wall before line text receipt count after nexts.Unbooked =
+  AnswersSo wall before line text last receipt count after nexts.Unbooked =
       ComesUnbooked stood before line count after × (text ≡ unbooked_line)
 
   -- the line was acted on and its answer is the text; or memory ran out
   abbrev pub PutsAnswer : ChineseWall → (before : Known) → Result Ask BadLine → (text : List ℕ) →
-      (receipt : Option Covered) → Counting → (after : Known) → Result Next OutOfMemory → Type 0
-  PutsAnswer wall before line text receipt count after (Ok next) =
-      AnswersSo wall before line text receipt count after next
-  PutsAnswer wall before line text receipt count after (Err error) =
+      (last receipt : Option Covered) → Counting → (after : Known) → Result Next OutOfMemory →
+      Type 0
+  PutsAnswer wall before line text last receipt count after (Ok next) =
+      AnswersSo wall before line text last receipt count after next
+  PutsAnswer wall before line text last receipt count after (Err error) =
       MayHaveCome stood before line count after
 
   -- the text answers the line, and the desk was shown what is due before
   abbrev pub AnswersBehind : {O : Type 0} → ChineseWall → (before : Known) → Result Ask BadLine →
       (text : List ℕ) → (desk : Showing) → Used O → Counting → (after : Known) → Next → Type 0
-  AnswersBehind wall before line text desk sink count after next = (receipt : Option Covered)
-      × AnswersSo wall before line text receipt count after next
-      × Tells desk.before desk.since (shown_next next receipt (bytes_before sink))
+  AnswersBehind wall before line text desk sink count after next =
+      AnswersSo wall before line text desk.before.last desk.since.last count after next
+      × Tells desk.before.shown desk.since.shown
+      (shown_next next desk.since.last (bytes_before sink))
 
   -- the line's answer was written, after which the session goes on so
   abbrev pub WritesAnswer : {O : Type 0} → ChineseWall → (before : Known) → Result Ask BadLine →
@@ -259,7 +295,7 @@ module _ (stood : ChineseWall → List Entry → Option Covered → Type 0) (mos
       × (text : List ℕ) × AnswersBehind wall before line text desk sink count after next
       × BrokeOff sink text
   AnswersLine wall before line desk sink count after (Err NoMemory) = IsUntouched sink
-      × (desk.since ≡ desk.before) × MayHaveCome stood before line count after
+      × (desk.since.shown ≡ desk.before.shown) × MayHaveCome stood before line count after
   AnswersLine wall before line desk sink count after (Err ReadFailed) = ⊥
   AnswersLine wall before line desk sink count after (Err EndOfStream) = ⊥
 
@@ -272,8 +308,8 @@ module _ (stood : ChineseWall → List Entry → Option Covered → Type 0) (mos
     pub told : List Told
     pub acted : Acted wall before text lines rest told now
     pub shows : List Shown
-    pub shown : Tells desk.before desk.since shows
-    pub booked : AreBooked stood wall (bytes_before sink) before told shows now
+    pub shown : Shows desk shows
+    pub booked : AreBooked stood wall (bytes_before sink) before desk.before.last told shows now
     pub counted : Counted told count
     pub written : IsWritten sink (answers wall told)
 
@@ -304,8 +340,8 @@ module _ (stood : ChineseWall → List Entry → Option Covered → Type 0) (mos
     pub untold : Option Told
     pub acted : Acted wall before text lines rest (and_untold untold told) after
     pub shows : List Shown
-    pub shown : Tells desk.before desk.since shows
-    pub booked : AreBooked stood wall (bytes_before sink) before told shows after
+    pub shown : Tells desk.before.shown desk.since.shown shows
+    pub booked : AreBooked stood wall (bytes_before sink) before desk.before.last told shows after
     pub counted : Counted (and_untold untold told) count
     pub stops : StopsSo stood (IsSpent most count.now) wall sink before rest told untold after end
 

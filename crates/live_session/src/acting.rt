@@ -8,7 +8,7 @@ ghost use Rattle.hall_script.specs.Asks.{AsksWithKnownLabel};
 ghost use Rattle.hall_turn.specs.Receipts.{Covered};
 ghost use Rattle.hall_turn.specs.Answers.{Answered, IsSamePass, NamesKnown, ClaimAnswered};
 ghost use Rattle.hall_turn.specs.Answers.{ClaimNamesKnown, MayFinish, GivesAt, ClaimGivesAt};
-ghost use Rattle.live_session.specs.Sessions.{Stood};
+ghost use Rattle.live_session.specs.Sessions.{IsHeadBy, Stood};
 ghost use Rattle.live_session.specs.Steps.{Waited, CameTo, CameNamesKnown, came_of};
 ghost use Rattle.live_session.specs.Steps.{Counts, calls_after, counting};
 
@@ -18,7 +18,7 @@ use crate::setting::Setting;
 use hall_core::{Reply, finish};
 use hall_script::Ask;
 use hall_turn::{
-    Answer, Claimed, PassTo, Receipt, Receipts, call_with_receipt, claim_with_receipt,
+    Answer, Claimed, Head, PassTo, Receipt, Receipts, call_with_receipt, claim_with_receipt,
 };
 use run_model::Act;
 use std::sync::Wait;
@@ -28,6 +28,8 @@ use std::sync::Wait;
 pub(crate) enum Came {
     /// Its call was made, the last one of those that it asks for, and this is its reply.
     Reply(Reply),
+    /// It asked for the head of the book: that of the last receipt, if there is a book.
+    Head(Option<Head>),
     /// It said `leave`.
     Left,
     /// Its call was not made: the session has made as many as it may, or the door was too late.
@@ -39,11 +41,12 @@ pub(crate) enum Came {
 // What a line came to whose last call was answered so, with the machine booked or not at the end of
 // its turn. It counts as one call, if it was made. Whoever waits is told of a machine that is not
 // booked.
-fn came_of<R: Wait>(rt: &R, caller: &mut Caller, answer: Answer, is_booked: bool) -> Came
+fn came_of<R: Wait, T>(rt: &R, caller: &mut Caller<T>, answer: Answer, is_booked: bool) -> Came
     requires room { caller.old.calls < 18446744073709551615 }
     ensures came { (booked : Option Covered) → is_booked ≡ is_some booked →
         result ≡ came_of answer booked }
     ensures calls { caller.new.calls ≡ calls_after answer caller.old.calls }
+    ensures receipt { caller.new.receipt ≡ caller.old.receipt }
 {
     match answer {
         Answer::Reply(reply) => {
@@ -56,6 +59,16 @@ fn came_of<R: Wait>(rt: &R, caller: &mut Caller, answer: Answer, is_booked: bool
             }
         }
         Answer::Exhausted => Came::Exhausted,
+    }
+}
+
+// The head that this receipt says; none where there is no receipt.
+fn head_by<T: Receipt>(receipt: &Option<T>) -> Option<Head>
+    ensures { IsHeadBy (option_map T.covers receipt.now) result }
+{
+    match receipt {
+        Some(receipt) => receipt.head(),
+        None => None,
     }
 }
 
@@ -183,13 +196,7 @@ impl<'s, R: Wait, M: Receipts<T>, T: Receipt + Drop> Setting<'s, R, M, T> {
     }
 
     // An act, if the session may make one more call.
-    fn act(
-        &self,
-        pass: &mut PassTo<M>,
-        caller: &mut Caller,
-        act: Act,
-        receipt: &mut Option<T>,
-    ) -> Came
+    fn act(&self, pass: &mut PassTo<M>, caller: &mut Caller<T>, act: Act) -> Came
         requires door { pass.old.door ≡ self.now.door.now }
         requires legal { Legal self.now.door.now.policy pass.old.seen }
         requires label { HasKnownLabel self.now.door.now.policy act }
@@ -197,32 +204,7 @@ impl<'s, R: Wait, M: Receipts<T>, T: Receipt + Drop> Setting<'s, R, M, T> {
         ensures same { IsSamePass pass.old pass.new }
         ensures legal { Legal self.now.door.now.policy pass.new.seen }
         ensures came { CameTo (Stood M.stands M.booked) self.now.most pass.old (ToAct act) result
-            (option_map T.covers receipt.new) (counting caller.old.calls caller.new.calls) pass.new }
-        ensures counts { Counts self.now.most caller.new.calls pass.new }
-        ensures named { CameNamesKnown self.now.door.now.policy result }
-    {
-        if !may_call(caller.calls, self.most) {
-            return Came::Exhausted;
-        }
-        let answer = self.make(pass, &mut caller.seat, act, receipt);
-        came_of(self.rt, caller, answer, receipt.is_some())
-    }
-
-    // A wait, if the session may make one more call.
-    fn wait_for(
-        &self,
-        pass: &mut PassTo<M>,
-        caller: &mut Caller,
-        request: u64,
-        receipt: &mut Option<T>,
-    ) -> Came
-        requires door { pass.old.door ≡ self.now.door.now }
-        requires legal { Legal self.now.door.now.policy pass.old.seen }
-        requires counts { Counts self.now.most caller.old.calls pass.old }
-        ensures same { IsSamePass pass.old pass.new }
-        ensures legal { Legal self.now.door.now.policy pass.new.seen }
-        ensures came { CameTo (Stood M.stands M.booked) self.now.most pass.old (ToWait request)
-            result (option_map T.covers receipt.new)
+            (option_map T.covers caller.old.receipt) (option_map T.covers caller.new.receipt)
             (counting caller.old.calls caller.new.calls) pass.new }
         ensures counts { Counts self.now.most caller.new.calls pass.new }
         ensures named { CameNamesKnown self.now.door.now.policy result }
@@ -230,20 +212,37 @@ impl<'s, R: Wait, M: Receipts<T>, T: Receipt + Drop> Setting<'s, R, M, T> {
         if !may_call(caller.calls, self.most) {
             return Came::Exhausted;
         }
-        let answer = self.wait(pass, &mut caller.seat, request, receipt);
-        came_of(self.rt, caller, answer, receipt.is_some())
+        let answer = self.make(pass, &mut caller.seat, act, &mut caller.receipt);
+        let is_booked = caller.receipt.is_some();
+        came_of(self.rt, caller, answer, is_booked)
+    }
+
+    // A wait, if the session may make one more call.
+    fn wait_for(&self, pass: &mut PassTo<M>, caller: &mut Caller<T>, request: u64) -> Came
+        requires door { pass.old.door ≡ self.now.door.now }
+        requires legal { Legal self.now.door.now.policy pass.old.seen }
+        requires counts { Counts self.now.most caller.old.calls pass.old }
+        ensures same { IsSamePass pass.old pass.new }
+        ensures legal { Legal self.now.door.now.policy pass.new.seen }
+        ensures came { CameTo (Stood M.stands M.booked) self.now.most pass.old (ToWait request)
+            result (option_map T.covers caller.old.receipt) (option_map T.covers caller.new.receipt)
+            (counting caller.old.calls caller.new.calls) pass.new }
+        ensures counts { Counts self.now.most caller.new.calls pass.new }
+        ensures named { CameNamesKnown self.now.door.now.policy result }
+    {
+        if !may_call(caller.calls, self.most) {
+            return Came::Exhausted;
+        }
+        let answer = self.wait(pass, &mut caller.seat, request, &mut caller.receipt);
+        let is_booked = caller.receipt.is_some();
+        came_of(self.rt, caller, answer, is_booked)
     }
 
     /// Does what a line asks for. A call is made only if the session may make one more. Where one
     /// was made there is the receipt that the machine gave at the end of the turn of the last one,
-    /// if it was booked.
-    pub(crate) fn act_on(
-        &self,
-        pass: &mut PassTo<M>,
-        caller: &mut Caller,
-        ask: Ask,
-        receipt: &mut Option<T>,
-    ) -> Came
+    /// if it was booked; else there is the receipt that there was. The head of the book is what that
+    /// one says: so it takes no turn.
+    pub(crate) fn act_on(&self, pass: &mut PassTo<M>, caller: &mut Caller<T>, ask: Ask) -> Came
         requires door { pass.old.door ≡ self.now.door.now }
         requires legal { Legal self.now.door.now.policy pass.old.seen }
         requires label { AsksWithKnownLabel self.now.door.now.policy ask }
@@ -251,13 +250,15 @@ impl<'s, R: Wait, M: Receipts<T>, T: Receipt + Drop> Setting<'s, R, M, T> {
         ensures same { IsSamePass pass.old pass.new }
         ensures legal { Legal self.now.door.now.policy pass.new.seen }
         ensures came { CameTo (Stood M.stands M.booked) self.now.most pass.old ask result
-            (option_map T.covers receipt.new) (counting caller.old.calls caller.new.calls) pass.new }
+            (option_map T.covers caller.old.receipt) (option_map T.covers caller.new.receipt)
+            (counting caller.old.calls caller.new.calls) pass.new }
         ensures counts { Counts self.now.most caller.new.calls pass.new }
         ensures named { CameNamesKnown self.now.door.now.policy result }
     {
         match ask {
-            Ask::Act(act) => self.act(pass, caller, act, receipt),
-            Ask::Wait(request) => self.wait_for(pass, caller, request, receipt),
+            Ask::Act(act) => self.act(pass, caller, act),
+            Ask::Wait(request) => self.wait_for(pass, caller, request),
+            Ask::Head => Came::Head(head_by(&caller.receipt)),
             Ask::Leave => Came::Left,
         }
     }

@@ -14,6 +14,7 @@ use crate::acting::Came;
 use crate::caller::Caller;
 use crate::desk::ShowDesk;
 use crate::ending::SessionEnd;
+use crate::head::put_head;
 use crate::line::{Lines, bad_line, give_back};
 use crate::setting::Setting;
 use coll_text::{put, send};
@@ -28,7 +29,7 @@ use wall_policy::Policy;
 pub(crate) enum Next {
     /// It acts on the next line. This one made a call, and its reply is told.
     Replied,
-    /// It acts on the next line. This one asked for nothing.
+    /// It acts on the next line. This one asked for no call.
     GoesOn,
     /// It ends: the line said `leave`.
     Left,
@@ -48,19 +49,23 @@ fn put_came(policy: &Policy, came: &Came, text: &mut Vec<u8>) -> Result<Next, No
     match came {
         Came::Reply(reply) => match write_reply(policy, reply, text) {
             Ok(()) => Ok(Next::Replied),
-            Err(_) => Err(NoMemory),
+            Err(refused) => Err(refused),
+        },
+        Came::Head(head) => match put_head(text, head) {
+            Ok(()) => Ok(Next::GoesOn),
+            Err(refused) => Err(NoMemory::from(refused)),
         },
         Came::Left => match put(text, "left\n") {
             Ok(()) => Ok(Next::Left),
-            Err(_) => Err(NoMemory),
+            Err(refused) => Err(NoMemory::from(refused)),
         },
         Came::Exhausted => match put(text, "exhausted\n") {
             Ok(()) => Ok(Next::Exhausted),
-            Err(_) => Err(NoMemory),
+            Err(refused) => Err(NoMemory::from(refused)),
         },
         Came::Unbooked => match put(text, "unbooked\n") {
             Ok(()) => Ok(Next::Unbooked),
-            Err(_) => Err(NoMemory),
+            Err(refused) => Err(NoMemory::from(refused)),
         },
     }
 }
@@ -93,9 +98,8 @@ impl<'s, R: Wait, M: Receipts<T>, T: Receipt + Drop> Setting<'s, R, M, T> {
     fn put_answer(
         &self,
         pass: &mut PassTo<M>,
-        caller: &mut Caller,
+        caller: &mut Caller<T>,
         lines: &mut Lines,
-        receipt: &mut Option<T>,
     ) -> Result<Next, NoMemory>
         requires door { pass.old.door ≡ self.now.door.now }
         requires legal { Legal self.now.policy.now pass.old.seen }
@@ -106,29 +110,29 @@ impl<'s, R: Wait, M: Receipts<T>, T: Receipt + Drop> Setting<'s, R, M, T> {
         ensures puts { (bytes : List ℕ) → Holds lines.old.line bytes →
             PutsAnswer (Stood M.stands M.booked) self.now.most self.now.policy.now pass.old
             (said self.now.policy.now.dataset_names bytes) lines.new.text.items
-            (option_map T.covers receipt.new) (counting caller.old.calls caller.new.calls) pass.new
-            result }
+            (option_map T.covers caller.old.receipt) (option_map T.covers caller.new.receipt)
+            (counting caller.old.calls caller.new.calls) pass.new result }
         ensures counts { Counts self.now.most caller.new.calls pass.new }
     {
         match lines.line.read(self.alloc, self.policy) {
             Ok(Ok(ask)) => {
-                let came = self.act_on(pass, caller, ask, receipt);
+                let came = self.act_on(pass, caller, ask);
                 put_came(self.policy, &came, &mut lines.text)
             }
             Ok(Err(bad)) => match put(&mut lines.text, bad_line(bad)) {
                 Ok(()) => Ok(Next::GoesOn),
-                Err(_) => Err(NoMemory),
+                Err(refused) => Err(NoMemory::from(refused)),
             },
-            Err(_) => Err(NoMemory),
+            Err(refused) => Err(refused),
         }
     }
 
     /// Acts on a finished line, and writes its answer. The desk is shown the receipt of its last
-    /// call before a reply is written.
+    /// call before a reply is written; that receipt stays until the next call.
     pub(crate) fn answer_line<S: ShowDesk<O, T>, O: Sink>(
         &self,
         pass: &mut PassTo<M>,
-        caller: &mut Caller,
+        caller: &mut Caller<T>,
         lines: &mut Lines,
         source: &mut S,
         sink: &mut O,
@@ -144,17 +148,17 @@ impl<'s, R: Wait, M: Receipts<T>, T: Receipt + Drop> Setting<'s, R, M, T> {
         ensures answers { (bytes : List ℕ) → Holds lines.old.line bytes →
             AnswersLine (Stood M.stands M.booked) self.now.most self.now.policy.now pass.old
             (said self.now.policy.now.dataset_names bytes)
-            (showing S.heard source.old source.new)
+            (showing S.heard source.old source.new
+            (option_map T.covers caller.old.receipt) (option_map T.covers caller.new.receipt))
             (used O.failures O.contents sink.old sink.new)
             (counting caller.old.calls caller.new.calls) pass.new result }
         ensures counts { Counts self.now.most caller.new.calls pass.new }
     {
-        let mut receipt = None;
-        let next = match self.put_answer(pass, caller, lines, &mut receipt) {
+        let next = match self.put_answer(pass, caller, lines) {
             Ok(next) => next,
-            Err(_) => return Err(SessionEnd::NoMemory),
+            Err(refused) => return Err(SessionEnd::from(refused)),
         };
-        show_receipt(&receipt, next, source, sink);
+        show_receipt(&caller.receipt, next, source, sink);
         match send(&mut lines.text, sink) {
             Ok(()) => {
                 give_back(self.alloc, &mut lines.text);

@@ -1,5 +1,7 @@
 //! How a session ends.
 
+use wall_labels::NoMemory;
+
 /// How a session of a process ended.
 #[derive(Clone, Copy, Debug, PartialEq, Eq)]
 pub enum SessionEnd {
@@ -19,6 +21,17 @@ pub enum SessionEnd {
     Unbooked,
     /// A growth of memory was refused: for a line, before it was acted on, or for its answer.
     NoMemory,
+}
+
+impl From<NoMemory> for SessionEnd {
+    ghost use Rattle.std.specs.Prelude.{◌≡◌};
+    ghost use Rattle.live_session.specs.declared.ending.SessionEnd.TheVariants.{NoMemory};
+
+    ghost from_gives = { λ _ e. e ≡ NoMemory };
+
+    fn from(_refused: NoMemory) -> SessionEnd {
+        SessionEnd::NoMemory
+    }
 }
 
 /// How a session of a process ended, and after how many calls.

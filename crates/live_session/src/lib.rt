@@ -7,6 +7,7 @@ mod answer;
 mod caller;
 mod desk;
 mod ending;
+mod head;
 mod line;
 mod peer;
 mod ready;

@@ -92,14 +92,20 @@ pub(crate) fn prepare<M: Machine + Drop, S: Desk<O> + Drop, O: Sink + Drop>(
     ensures room { IfOk result (λ ready. HasRoomFor (vec_len ready.jobs) ready.room) }
 {
     let (door, passes) = DoorTo::over(alloc, policy, machine)?;
-    let Ok(jobs) = share_out(alloc, passes, peers, most) else {
-        drop(door);
-        return Err(NoMemory);
+    let jobs = match share_out(alloc, passes, peers, most) {
+        Ok(jobs) => jobs,
+        Err(refused) => {
+            drop(door);
+            return Err(refused);
+        }
     };
-    let Ok((stage, room)) = make_room(alloc, jobs.len()) else {
-        drop(jobs);
-        drop(door);
-        return Err(NoMemory);
+    let (stage, room) = match make_room(alloc, jobs.len()) {
+        Ok(made) => made,
+        Err(refused) => {
+            drop(jobs);
+            drop(door);
+            return Err(NoMemory::from(refused));
+        }
     };
     Ok(Ready {
         door,

@@ -21,7 +21,7 @@ use std::snapshot::Snapshot;
 use std::sync::{Mutex, Wait};
 use std::thread;
 use std::thread::{PromisedHandle, Threads};
-use wall_labels::Sink;
+use wall_labels::{NoMemory, Sink};
 use wall_policy::Policy;
 
 // A session from its start to its end; or nothing of it, where the run is given up.
@@ -102,6 +102,17 @@ pub enum ServeFault {
     NoThread,
     /// A growth of memory was refused.
     NoMemory,
+}
+
+impl From<NoMemory> for ServeFault {
+    ghost use Rattle.std.specs.Prelude.{◌≡◌};
+    ghost use Rattle.live_session.specs.declared.run.ServeFault.TheVariants.{NoMemory};
+
+    ghost from_gives = { λ _ e. e ≡ NoMemory };
+
+    fn from(_refused: NoMemory) -> ServeFault {
+        ServeFault::NoMemory
+    }
 }
 
 // What the threads gave back, sorted.
@@ -267,8 +278,9 @@ where
     if peers.len() != policy.processes() as usize {
         return Err(ServeFault::BadPeers);
     }
-    let Ok(ready) = prepare(alloc, policy, machine, peers, most) else {
-        return Err(ServeFault::NoMemory);
+    let ready = match prepare(alloc, policy, machine, peers, most) {
+        Ok(ready) => ready,
+        Err(refused) => return Err(ServeFault::from(refused)),
     };
     let Ready {
         door,

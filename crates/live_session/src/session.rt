@@ -1,5 +1,5 @@
 //! The session of a process, from its first line to its end.
-ghost use Rattle.std.specs.Prelude.{◌≡◌, List, ℕ, [], OnOk};
+ghost use Rattle.std.specs.Prelude.{◌≡◌, List, ℕ, [], None, OnOk, option_map};
 ghost use Rattle.run_model.specs.Replies.{Legal};
 ghost use Rattle.coll_text.specs.Reading.{parts};
 ghost use Rattle.hall_script.specs.Devices.{used};
@@ -18,14 +18,14 @@ use crate::setting::Setting;
 use coll_text::Parts;
 use hall_turn::{PassTo, Receipt, Receipts};
 use std::sync::Wait;
-use wall_labels::Sink;
+use wall_labels::{NoMemory, Sink};
 
 impl<'s, R: Wait, M: Receipts<T>, T: Receipt + Drop> Setting<'s, R, M, T> {
     // Acts on the lines that these bytes finish, and keeps the rest.
     fn take_in<S: ShowDesk<O, T>, O: Sink>(
         &self,
         pass: &mut PassTo<M>,
-        caller: &mut Caller,
+        caller: &mut Caller<T>,
         lines: &mut Lines,
         bytes: &[u8],
         source: &mut S,
@@ -42,7 +42,8 @@ impl<'s, R: Wait, M: Receipts<T>, T: Receipt + Drop> Setting<'s, R, M, T> {
         ensures takes { (start : List ℕ) → Holds lines.old.line start →
             TakesIn (Stood M.stands M.booked) self.now.most self.now.policy.now pass.old
             (behind start (parts 10 bytes.now)) lines.new.line
-            (showing S.heard source.old source.new)
+            (showing S.heard source.old source.new
+            (option_map T.covers caller.old.receipt) (option_map T.covers caller.new.receipt))
             (used O.failures O.contents sink.old sink.new)
             (counting caller.old.calls caller.new.calls) pass.new result }
         ensures counts { Counts self.now.most caller.new.calls pass.new }
@@ -53,7 +54,7 @@ impl<'s, R: Wait, M: Receipts<T>, T: Receipt + Drop> Setting<'s, R, M, T> {
         };
         match lines.line.add(first) {
             Ok(()) => {}
-            Err(_) => return Err(SessionEnd::NoMemory),
+            Err(refused) => return Err(SessionEnd::from(NoMemory::from(refused))),
         }
         while let Some(part) = parts.next_long() {
             match self.answer_line(pass, caller, lines, source, sink) {
@@ -62,23 +63,24 @@ impl<'s, R: Wait, M: Receipts<T>, T: Receipt + Drop> Setting<'s, R, M, T> {
             }
             match lines.line.begin(self.alloc, part) {
                 Ok(()) => {}
-                Err(_) => return Err(SessionEnd::NoMemory),
+                Err(refused) => return Err(SessionEnd::from(NoMemory::from(refused))),
             }
         }
         Ok(())
     }
 
-    // A session from its first line to its end. No call was counted before.
+    // A session from its first line to its end. No call was made before.
     fn hold<S: ShowDesk<O, T>, O: Sink>(
         &self,
         pass: &mut PassTo<M>,
-        caller: &mut Caller,
+        caller: &mut Caller<T>,
         source: &mut S,
         sink: &mut O,
     ) -> SessionEnd
         requires door { pass.old.door ≡ self.now.door.now }
         requires legal { Legal self.now.policy.now pass.old.seen }
         requires none { caller.old.calls ≡ 0 }
+        requires unreceipted { caller.old.receipt ≡ None }
         ensures same { IsSamePass pass.old pass.new }
         ensures serves { Serves (Stood M.stands M.booked) self.now.most S.heard self.now.policy.now
             (used S.failures S.remaining source.old source.new)
@@ -110,11 +112,14 @@ impl<'s, R: Wait, M: Receipts<T>, T: Receipt + Drop> Setting<'s, R, M, T> {
     /// where that sends it home, and then nothing was done.
     ///
     /// A line is `post C KIND FIELDS`, with `as LABEL V ..` behind it, or `take REQUEST`, or
-    /// `info C`, or `wait REQUEST`, or `leave`; it ends at LF, and one CR before that is dropped. A
+    /// `info C`, or `wait REQUEST`, or `head`, or `leave`; it ends at LF, and one CR before that is dropped. A
     /// call is answered by the line of its reply. A wait takes the request, and again when its
     /// instance has settled, and is answered as the last of these takes was: `pending` where every
     /// other session has ended or waits too, so that nobody is left who could settle it; all that
-    /// wait are told so then. `leave` is answered by `left`, and ends the session. So does a call
+    /// wait are told so then. `head` is answered by how far the book had come at the end of the turn
+    /// of the last call, as its receipt says: `head N DIGEST`, with the number of entries and the
+    /// SHA-256 of the text so far, or `head 0 -` where no call was made yet or no book is kept; it is
+    /// no call. `leave` is answered by `left`, and ends the session. So does a call
     /// where `most` were made, or after 2^62 turns of the door: it is not made, and answered by
     /// `exhausted`. So does a call behind whose turn the machine is not booked: it was made, and in
     /// place of its reply stands `unbooked`; whoever waits is told so too. Any other line is answered
@@ -145,23 +150,27 @@ impl<'s, R: Wait, M: Receipts<T>, T: Receipt + Drop> Setting<'s, R, M, T> {
         };
         let requests = match requests {
             Ok(requests) => requests,
-            Err(_) => {
+            Err(refused) => {
+                let end = SessionEnd::from(NoMemory::from(refused));
                 self.stage.leave(self.rt, role);
                 source.open();
-                source.close(SessionEnd::NoMemory, 0);
-                return Some(Closing {
-                    end: SessionEnd::NoMemory,
-                    calls: 0,
-                });
+                source.close(end, 0);
+                return Some(Closing { end, calls: 0 });
             }
         };
         let mut caller = Caller {
             seat: Seat::new(self.rt, self.stage, role, requests),
             calls: 0,
+            receipt: None,
         };
         source.open();
         let end = self.hold(pass, &mut caller, source, sink);
-        let Caller { seat, calls } = caller;
+        let Caller {
+            seat,
+            calls,
+            receipt,
+        } = caller;
+        drop(receipt);
         seat.end(self.rt);
         source.close(end, calls);
         Some(Closing { end, calls })

@@ -253,6 +253,35 @@ fn leave_ends_a_session(rt: HostRuntime) {
     assert!(&rt; is, "nobody reads the answer");
 }
 
+/// `head` is answered, and is no call: nothing is known of a book where none is kept. With anything
+/// behind it on its line it is bad.
+#[test]
+fn a_head_is_no_call(rt: HostRuntime) {
+    let asked = Session {
+        lines: b"head\nhead now\ninfo 0\nhead \nhead\r\nheads\nleave\n",
+        answers: "head 0 -
+bad BadShape
+info size 1 rank 0
+bad BadShape
+head 0 -
+bad BadVerb
+left
+",
+        due: ended(SessionEnd::Left, 1),
+    };
+    for piece in [1, WHOLE] {
+        let is = is_served(&rt, rt.alloc(), asked, piece, Fuse::Whole, Fuse::Whole);
+        assert!(&rt; is, "{piece} bytes at a time");
+    }
+    let unheard = Session {
+        lines: b"head\n",
+        answers: "",
+        due: ended(SessionEnd::WriteFailed, 0),
+    };
+    let is = is_served(&rt, rt.alloc(), unheard, WHOLE, Fuse::Whole, Fuse::After(0));
+    assert!(&rt; is, "nobody reads the answer");
+}
+
 /// A wait of a process that is alone: for what has settled, was taken, or was never given. It is
 /// one call, however often it takes.
 #[test]
@@ -304,8 +333,8 @@ const BOUNDED: [(u64, &[u8], &str, Due); 6] = [
     ),
     (
         2,
-        b"info 0\ninfo 0\nleave\n",
-        "info size 1 rank 0\ninfo size 1 rank 0\nleft\n",
+        b"info 0\ninfo 0\nhead\nleave\n",
+        "info size 1 rank 0\ninfo size 1 rank 0\nhead 0 -\nleft\n",
         Due {
             end: SessionEnd::Left,
             calls: 2,
@@ -332,7 +361,7 @@ const BOUNDED: [(u64, &[u8], &str, Due); 6] = [
 ];
 
 /// The call behind the last one that a session may make is answered `exhausted` and not made,
-/// whatever it asks for; a line that asks for nothing, and `leave`, are answered as ever.
+/// whatever it asks for; a line that asks for nothing, `head` and `leave` are answered as ever.
 #[test]
 fn a_session_makes_as_many_calls_as_it_may(rt: HostRuntime) {
     for (most, lines, answers, due) in BOUNDED {

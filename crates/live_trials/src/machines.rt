@@ -40,10 +40,12 @@ impl Lapsing {
 impl Machine for Lapsing {
     ghost use Rattle.std.specs.Prelude.{None, Some, if◌then◌else◌};
     ghost use Rattle.hall_turn.specs.Machines.{Stands};
+    ghost use Rattle.hall_turn.specs.Receipts.{nothing_known};
 
     ghost stands = { λ wall machine run. Stands wall machine.hall run };
 
-    ghost booked = { λ machine. if machine.is_booked then Some None else None };
+    ghost booked = { λ machine.
+        if machine.is_booked then Some nothing_known else None };
 
     fn apply(&mut self, call: Call) -> Applied {
         let applied = Machine::apply(&mut self.hall, call);

@@ -1,6 +1,6 @@
 //! No read comes between a line and its answer, and a receipt is shown before each reply: seen by a
 //! desk that writes down, at each read and each receipt, what had been written to the sink beside it.
-ghost use Rattle.std.specs.Prelude.{◌≡◌, map, None, Some};
+ghost use Rattle.std.specs.Prelude.{◌≡◌, map, Some};
 
 use crate::alone::{ANSWERS, LINES, end_alone};
 use crate::parties::wall;
@@ -64,13 +64,14 @@ fn copy<R: Abort>(rt: &R, alloc: Global, bytes: &[u8]) -> Vec<u8>
 
 impl<'a, R: Abort> Desk<Kept<'a, R>> for Watched<'a, R> {
     ghost use Rattle.wall_labels.specs.Fuses.{failures_of};
+    ghost use Rattle.hall_turn.specs.Receipts.{nothing_known};
 
     ghost failures = { λ s. failures_of s.lines.fuse };
 
     ghost heard = { λ s. record {
       reads = Some (map (λ r. record { bytes = r.bytes.items; written = Some r.written.items })
           s.reads.items);
-      shows = Some (map (λ w. record { covers = None; written = Some w.items }) s.shows.items);
+      shows = Some (map (λ w. record { covers = nothing_known; written = Some w.items }) s.shows.items);
     } };
 
     fn open(&self) {}

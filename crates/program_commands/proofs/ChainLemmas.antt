@@ -68,7 +68,7 @@ begun_named after begun policy runs.NoMemory h = tt
 
 module _ {D : Type 0} (fails : D → ℕ) (left : D → Option (List ℕ))
     (is_at : D → List ℕ → Type 0) where
-  has_name : (past : Past) (run : Run) (fault : RunFault) →
+  pub has_name : (past : Past) (run : Run) (fault : RunFault) →
       IsNotRead fails left is_at past run fault → HasName past.policy fault
   has_name past run runs.UnreadPolicy h = tt
   has_name past run runs.OtherPolicy h = tt

@@ -8,3 +8,4 @@ pub mod EarlierLemmas
 pub mod ReportLemmas
 pub mod ChainLemmas
 pub mod ChainReportLemmas
+pub mod ChainGivenLemmas

@@ -5,12 +5,13 @@ use Rattle.std.specs.Io.KnownBytes.{Appends}
 use Rattle.wall_policy.specs.Policy.{ChineseWall}
 use Rattle.run_model.specs.Comms.{processes}
 use Rattle.run_model.specs.Runs.{Entry}
-use Rattle.hall_turn.specs.Receipts.{Covered}
+use Rattle.hall_turn.specs.declared.head.Head.{Head}
+use Rattle.hall_turn.specs.Receipts.{Covered, Extent, IsHeadAt}
 use Rattle.live_book.specs.declared.unbooked.Unbooked.{Unbooked}
 use Rattle.live_book.specs.declared.unbooked.Unbooked.TheVariants as unbookeds
 use Rattle.hall_script.specs.Devices.{used}
 use Rattle.program_commands.specs.Endings.{Writes}
-use Rattle.live_book.specs.Books.{IsWritten, SinkValue, book_of, text_so_far, unless_cut}
+use Rattle.live_book.specs.Books.{HasCome, IsWritten, SinkValue, book_of, text_so_far, unless_cut}
 use Rattle.live_session.specs.declared.peer.Peer.{Peer}
 use Rattle.live_session.specs.declared.run.ServeFault.{ServeFault}
 use Rattle.live_session.specs.declared.run.ServeFault.TheVariants as serves
@@ -19,7 +20,7 @@ use Rattle.live_session.specs.declared.peer.Session.{Session}
 use Rattle.live_session.specs.Hearing.{DeskLog}
 use Rattle.program_commands.specs.declared.ending.Ending.TheVariants.{BadArguments}
 use Rattle.program_commands.specs.Serving.{serve_ending, IsUnserved, ServeEnds, first_line, book_ending}
-use Rattle.program_commands.specs.Serving.{ReceiptsCoverTheBook}
+use Rattle.program_commands.specs.Serving.{IsHeadOf, ReceiptsCoverTheBook}
 
 module _ {S O B : Type 0} (spoilt : B → ℕ) (kept : B → Option (List ℕ)) (wall : ChineseWall)
     (peers : List (Peer S O)) where
@@ -62,17 +63,42 @@ module _ {S O B : Type 0} (fails : S → ℕ) (left : S → Option (List ℕ))
   misfit (Some old) back sessions other same none = inl ((other, same), none)
 
 -- what a writer has that has the book so far
-covers_by : (wall : ChineseWall) (begun sink : SinkValue) (fault : Option Unbooked)
-    (run : List Entry) (bytes : Covered) → IsWritten wall begun sink fault run →
-    Some bytes ≡ unless_cut fault sink.contents →
-    Appends begun.contents bytes (text_so_far wall (book_of wall run))
-covers_by wall begun sink None run bytes w is =
-    let same : bytes ≡ sink.contents = cc in
-    subst (λ (k : Covered). Appends begun.contents k (text_so_far wall (book_of wall run)))
-    (sym same) w.written
-covers_by wall begun sink (Some fault) run bytes w is = absurd cc
+covers_by : (wall : ChineseWall) (begun sink : SinkValue) (far : Extent) (fault : Option Unbooked)
+    (run : List Entry) (covers : Covered) → IsWritten wall begun sink fault run →
+    Some covers ≡ unless_cut fault (record { contents = sink.contents; extent = Some far }) →
+    Appends begun.contents covers.contents (text_so_far wall (book_of wall run))
+covers_by wall begun sink far None run covers w is =
+    let same : covers ≡ record { contents = sink.contents; extent = Some far } = cc in
+    subst (λ (k : Covered). Appends begun.contents k.contents
+    (text_so_far wall (book_of wall run))) (sym same) w.written
+covers_by wall begun sink far (Some fault) run covers w is = absurd cc
+
+-- the head that is told of it
+head_at : (wall : ChineseWall) (far : Extent) (run : List Entry) (head : Option Head) →
+    HasCome wall far run → IsHeadAt (Some far) head → IsHeadOf wall run head
+head_at wall far run None come is = absurd is
+head_at wall far run (Some head) come (entries, digest) = (
+  entries ∙ come.entries,
+  digest (text_so_far wall (book_of wall run)) come.holds,
+)
+
+head_by : (wall : ChineseWall) (sink : SinkValue) (far : Extent) (fault : Option Unbooked)
+    (run : List Entry) (covers : Covered) (head : Option Head) →
+    (fault ≡ None → HasCome wall far run) →
+    Some covers ≡ unless_cut fault (record { contents = sink.contents; extent = Some far }) →
+    IsHeadAt covers.extent head → IsHeadOf wall run head
+head_by wall sink far None run covers head come is at =
+    let same : covers ≡ record { contents = sink.contents; extent = Some far } = cc in
+    head_at wall far run head (come refl)
+    (subst (λ (k : Covered). IsHeadAt k.extent head) same at)
+head_by wall sink far (Some fault) run covers head come is at = absurd cc
 
 pub receipts_cover : ReceiptsCoverTheBook
-receipts_cover begun wall run bytes (machine, (stands, same), is) =
-    subst (λ (v : SinkValue). Appends v.contents bytes (text_so_far wall (book_of wall run))) same
-    (covers_by wall machine.begun machine.sink machine.fault run bytes stands.book is)
+receipts_cover begun wall run covers (machine, (stands, same), is) = (
+  subst (λ (v : SinkValue). Appends v.contents covers.contents
+      (text_so_far wall (book_of wall run))) same
+      (covers_by wall machine.begun machine.sink machine.extent machine.fault run covers
+      stands.book is),
+  λ head at. head_by wall machine.sink machine.extent machine.fault run covers head stands.extent is
+      at,
+)

@@ -15,4 +15,6 @@ pub mod ChainLines
 pub mod Chains
 -- the policy of a chain's next run, and of its last
 pub mod ChainWalls
+-- what the runs before its last gave
+pub mod ChainGiven
 pub mod ChainReports

@@ -8,7 +8,9 @@ use Rattle.run_model.specs.Runs.{Entry}
 use Rattle.audit_book.specs.Text.{header_words, line_of}
 use Rattle.hall_script.specs.Devices.{used}
 use Rattle.hall_turn.specs.Machines.{Stands}
-use Rattle.hall_turn.specs.Receipts.{Covered}
+use Rattle.sha2.specs.Sha256.{sha256}
+use Rattle.hall_turn.specs.declared.head.Head.{Head}
+use Rattle.hall_turn.specs.Receipts.{Covered, IsHeadAt}
 use Rattle.live_book.specs.declared.unbooked.Unbooked.{Unbooked}
 use Rattle.live_book.specs.declared.unbooked.Unbooked.TheVariants as unbookeds
 use Rattle.live_book.specs.Books.{SinkValue, StandsBehind, book_of, covered, text_so_far}
@@ -107,10 +109,18 @@ module _ {S O : Type 0} (fails : S → ℕ) (left : S → Option (List ℕ))
 
 -- ---- receipts
 
+-- the head of the book of a run: the number of its entries, and the SHA-256 of its text but for the
+-- last line
+abbrev pub IsHeadOf : ChineseWall → (run : List Entry) → Option Head → Type 0
+IsHeadOf wall run None = ⊥
+IsHeadOf wall run (Some head) = (head.entries ≡ length (book_of wall run))
+    × (head.digest ≡ sha256 (text_so_far wall (book_of wall run)))
+
 -- What a receipt says that was shown before a reply: behind what the writer had at first, it had,
 -- when it gave the receipt, the text of the book of the run up to the reply's call, but for the
--- last line.
+-- last line. And the head that a session tells by that receipt is that of this text.
 abbrev pub ReceiptsCoverTheBook : Type 0
 ReceiptsCoverTheBook = (begun : SinkValue) (wall : ChineseWall) (run : List Entry)
-    (bytes : Covered) → Stood (StandsBehind begun) covered wall run (Some bytes) →
-    Appends begun.contents bytes (text_so_far wall (book_of wall run))
+    (covers : Covered) → Stood (StandsBehind begun) covered wall run (Some covers) →
+    Appends begun.contents covers.contents (text_so_far wall (book_of wall run))
+    × ((head : Option Head) → IsHeadAt covers.extent head → IsHeadOf wall run head)

@@ -4,6 +4,8 @@
 
 mod audit;
 mod chain;
+mod chain_again;
+mod chain_given;
 mod chain_line;
 mod chain_report;
 mod chain_wall;

@@ -61,8 +61,8 @@ fn report_entries<O: Sink>(alloc: Global, reading: &Reading, out: &mut O) -> End
     }
 }
 
-// Writes the text of a report, and then its page.
-fn write_both<O: Sink, W: Sink>(
+/// Writes the text of a report, and then its page.
+pub(crate) fn write_both<O: Sink, W: Sink>(
     out: &mut O,
     text: &[u8],
     file: &mut W,
@@ -186,7 +186,7 @@ fn read_all<'a, 'd, P: Source + Explains, D: Source + Explains + Drop, B: Source
 }
 
 // Reports on the book, if it was read.
-pub(crate) fn report_read<'a, O: Sink>(
+fn report_read<'a, O: Sink>(
     alloc: Global,
     reading: Result<Reading, Ending<'a>>,
     out: &mut O,
@@ -207,7 +207,7 @@ pub(crate) fn report_read<'a, O: Sink>(
 }
 
 // Does what `report_read` does, with a page behind the report.
-pub(crate) fn page_read<'a, O: Sink, W: Sink>(
+fn page_read<'a, O: Sink, W: Sink>(
     alloc: Global,
     reading: Result<Reading, Ending<'a>>,
     out: &mut O,

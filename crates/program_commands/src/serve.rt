@@ -13,7 +13,9 @@ ghost use Rattle.program_commands.specs.Serving.{ServeEnds, book_ending, first_l
 ghost use Rattle.program_commands.specs.Serving.{ReceiptsCoverTheBook, serve_ending};
 
 use crate::ending::{Ending, end};
-use live_book::{Begun, BookSink, BookedHall, BooklessHall, Finished, Unbooked, Unopened};
+use live_book::{
+    Begun, BookReceipt, BookSink, BookedHall, BooklessHall, Finished, Unbooked, Unopened,
+};
 use live_session::{Peer, ServeFault, Served, Session, ShowDesk, serve_all};
 use std::alloc::Global;
 use std::marker::Brand;
@@ -94,7 +96,7 @@ fn serve_bookless<R, S, O, E: Sink, B: BookSink>(
 ) -> ServeEnd<S, O, B>
 where
     R: Threads + Wait + Sync,
-    S: ShowDesk<O, Option<B::Receipt>> + Send + Drop,
+    S: ShowDesk<O, Option<BookReceipt<B::Receipt>>> + Send + Drop,
     O: Sink + Send + Drop,
     B::Receipt: Send,
     requires { vec_len peers ≡ processes policy.now }
@@ -107,7 +109,9 @@ where
     let Ok(hall) = bookless_hall(alloc, policy) else {
         return unserved(alloc, err, Ending::NoMemory, None);
     };
-    match serve_all::<_, _, _, _, Option<B::Receipt>>(rt, alloc, policy, hall, peers, most) {
+    match serve_all::<_, _, _, _, Option<BookReceipt<B::Receipt>>>(
+        rt, alloc, policy, hall, peers, most,
+    ) {
         Ok(served) => {
             let Served { sessions, machine } = served;
             drop(machine);
@@ -169,7 +173,7 @@ fn serve_booked<R, S, O, E: Sink, B, K: Begun + Send>(
 ) -> ServeEnd<S, O, B>
 where
     R: Threads + Wait + Sync,
-    S: ShowDesk<O, Option<B::Receipt>> + Send + Drop,
+    S: ShowDesk<O, Option<BookReceipt<B::Receipt>>> + Send + Drop,
     O: Sink + Send + Drop,
     B: BookSink + Send + Drop,
     B::Receipt: Send,
@@ -188,7 +192,9 @@ where
             return unserved(alloc, err, book_ending(fault), Some(sink));
         }
     };
-    match serve_all::<_, _, _, _, Option<B::Receipt>>(rt, alloc, policy, machine, peers, most) {
+    match serve_all::<_, _, _, _, Option<BookReceipt<B::Receipt>>>(
+        rt, alloc, policy, machine, peers, most,
+    ) {
         Ok(served) => {
             let Served { sessions, machine } = served;
             let (sink, ending) = finish(machine);
@@ -229,7 +235,7 @@ pub fn serve_on<R, S, O, E: Sink, B>(
 ) -> ServeEnd<S, O, B>
 where
     R: Threads + Wait + Sync,
-    S: ShowDesk<O, Option<B::Receipt>> + Send + Drop,
+    S: ShowDesk<O, Option<BookReceipt<B::Receipt>>> + Send + Drop,
     O: Sink + Send + Drop,
     B: BookSink + Send + Drop,
     B::Receipt: Send,
@@ -251,7 +257,8 @@ where
 }
 
 /// What a receipt says that a desk was shown before a reply, where there is a book: what the book's
-/// writer had when it gave the receipt, which was at the end of the turn of the reply's call.
+/// writer had when it gave the receipt, which was at the end of the turn of the reply's call; and what
+/// a session tells of it that is asked for the head of the book.
 #[tactic(auto, using(crate::proofs::ServeLemmas::receipts_cover))]
 pub fn receipts_cover_the_book()
     ensures { ReceiptsCoverTheBook }

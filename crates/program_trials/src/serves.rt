@@ -2,7 +2,7 @@
 //! is written while they are, and how it ends.
 use crate::endings::{sink, source};
 use crate::runs::ALONE;
-use live_book::{BookSink, Receipt};
+use live_book::{BookReceipt, BookSink, Receipt, SinkReceipt};
 use live_session::{Desk, Peer, Session, SessionEnd, ShowDesk};
 use program_commands::{Ending, ServeEnd, Unready, read_wall, refuse, serve_on};
 use std::alloc::{AllocError, Global};
@@ -82,7 +82,7 @@ impl BookSink for Keeping {
 #[derive(Drop)]
 struct Length(usize);
 
-impl Receipt for Length {}
+impl SinkReceipt for Length {}
 
 // A book that is to come. It fails at one of its writes, or never.
 #[derive(Drop)]
@@ -295,6 +295,55 @@ fn books_of_sessions_are_kept(rt: HostRuntime) -> Result<(), Fail> {
     Ok(())
 }
 
+// Who asks for the head of the book is told how far it had come with its last call.
+const HEADS: &[Talk] = &[Talk {
+    lines: "head
+info 0
+head
+post 0 bcast 0 int32 1 as alpha 5
+head
+take 0
+head now
+head
+",
+    answers: "head 0 -
+info size 1 rank 0
+head 0 4a8f51858ad3b4a9ef5b672d446f0c380b5f01ff54d625112ed85c491230ee4f
+posted 0
+head 2 86f91003da9e2ffa3cb4666912f305a6917a88ef8c093f48729bb9bb74bfcaee
+delivered none
+bad BadShape
+head 2 86f91003da9e2ffa3cb4666912f305a6917a88ef8c093f48729bb9bb74bfcaee
+",
+    end: SessionEnd::EndOfStream,
+}];
+
+// Where no book is kept there is none.
+const HEADLESS: &[Talk] = &[Talk {
+    lines: "head\ninfo 0\nhead\n",
+    answers: "head 0 -\ninfo size 1 rank 0\nhead 0 -\n",
+    end: SessionEnd::EndOfStream,
+}];
+
+#[test]
+fn heads_are_told(rt: HostRuntime) -> Result<(), Fail> {
+    assert!(&rt; serves_so(&rt, ALONE, HEADS, ALONE_BOOK, "", 0)?);
+    let wall = wall(&rt, ALONE).expect(&rt, "the policy is refused");
+    let mut err = sink(b"", Fuse::Whole);
+    let peers = peers(rt.alloc(), HEADLESS)?;
+    let ended = serve_on::<_, _, _, _, Keeping>(
+        &rt,
+        rt.alloc(),
+        &wall,
+        peers,
+        None,
+        &mut err,
+        None,
+    );
+    assert!(&rt; ended.status == 0 && have_ended_so(&ended.sessions, HEADLESS));
+    Ok(())
+}
+
 // The lines of a process, at a desk that looks how much of the book there is before each reply.
 #[derive(Drop)]
 struct Looking<'a> {
@@ -317,14 +366,14 @@ impl<'a> Desk<ExpectingSink<'a>> for Looking<'a> {
     fn close(&self, _end: SessionEnd, _calls: u64) {}
 }
 
-impl<'a> ShowDesk<ExpectingSink<'a>, Option<Length>> for Looking<'a> {
-    fn show(&mut self, _sink: &ExpectingSink<'a>, receipt: &Option<Length>) {
+impl<'a> ShowDesk<ExpectingSink<'a>, Option<BookReceipt<Length>>> for Looking<'a> {
+    fn show(&mut self, _sink: &ExpectingSink<'a>, receipt: &Option<BookReceipt<Length>>) {
         let Some((due, later)) = self.due.split_first() else {
             self.is_due = false;
             return;
         };
         match receipt {
-            Some(length) => self.is_due = self.is_due && length.0 == *due,
+            Some(receipt) => self.is_due = self.is_due && receipt.sink.0 == *due,
             None => self.is_due = false,
         }
         self.due = later;

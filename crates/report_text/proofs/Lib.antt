@@ -4,3 +4,5 @@ pub mod WordLemmas
 pub mod StateLemmas
 pub mod ReportTextLemmas
 pub mod TellLemmas
+-- what the runs of a chain gave
+pub mod GivenLemmas

@@ -14,3 +14,7 @@ pub mod Waits
 pub mod Reasons
 -- the whole text
 pub mod Report
+-- what a run gave, in a report on a later one
+pub mod Given
+-- what the runs of a chain gave, over all of them
+pub mod GivenOnce

@@ -9,7 +9,9 @@
 mod bars;
 mod denials;
 mod findings;
+mod given;
 mod instances;
+pub mod laws;
 mod lines;
 mod members;
 mod rows;
@@ -21,6 +23,7 @@ mod words;
 pub use book_report::{Book, BookFault};
 pub use denials::put_reason;
 pub use findings::Findings;
+pub use given::given_text;
 pub use instances::{Filled, put_outcome};
 pub use members::Member;
 pub use rows::put_way;

@@ -76,7 +76,8 @@ pub fn put_way(
     }
 }
 
-fn put_held(text: &mut Vec<u8>, policy: &Policy, row: &Row) -> Result<(), AllocError>
+/// The entry of this row, and who holds what after it.
+pub(crate) fn put_held(text: &mut Vec<u8>, policy: &Policy, row: &Row) -> Result<(), AllocError>
     ensures { OnOk result (text.new.items ≡ text.old.items
         ++ held_text policy.now row.now.process row.now.dataset row.now.entry) }
 {

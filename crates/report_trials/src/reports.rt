@@ -2,7 +2,7 @@
 
 use crate::walls::{CONSULTANTS, FOUR_BANKS, LONG, policy};
 use audit_book::{BookFault, after_book, read_book};
-use report_text::report_text;
+use report_text::{given_text, report_text};
 use std::process::Abort;
 use std::test::Fail;
 use wall_policy::Policy;
@@ -117,6 +117,27 @@ fn is_told(
             match said {
                 Ok(text) => are_lines(rt, &text, expected),
                 Err(_) => panic!(rt; "the book has no report"),
+            }
+        }
+        Err(_) => panic!(rt; "the book is not read"),
+    }
+}
+
+// Reads the book of a run: what it gave.
+fn is_given(
+    rt: &(impl AllocGlobal + Abort),
+    policy: &Policy,
+    book: &str,
+    run: u64,
+    expected: &str,
+) -> Result<(), Fail> {
+    match read_book(rt.alloc(), policy, book.as_bytes()) {
+        Ok(book) => {
+            let said = given_text(rt.alloc(), policy, &book, run);
+            drop(book);
+            match said {
+                Ok(text) => are_lines(rt, &text, expected),
+                Err(_) => panic!(rt; "the book is not sound"),
             }
         }
         Err(_) => panic!(rt; "the book is not read"),
@@ -369,7 +390,36 @@ why instances were denied:
     )
 }
 
-// What an earlier book gave is held before.
+// What a run gave, as a report on a later one tells it.
+#[test]
+fn given_by_earlier_runs(rt: HostRuntime) -> Result<(), Fail> {
+    let consultants = policy(&rt, CONSULTANTS);
+    is_given(
+        &rt,
+        &consultants,
+        OF_CONSULTANTS,
+        12,
+        "run 12, entry 17: consultant holds alpha: bcast 1 0 from a0
+run 12, entry 23: consultant holds crude: bcast 3 0 from c0
+",
+    )?;
+    let banks = policy(&rt, FOUR_BANKS);
+    let told = "run 1, entry 7: n0 holds alpha: own post\n";
+    is_given(&rt, &banks, OF_FOUR_BANKS, 1, told)?;
+    is_given(&rt, &banks, "book 2\nend 0\n", 1, "")?;
+    let long = policy(&rt, LONG);
+    is_given(
+        &rt,
+        &long,
+        OF_LONG,
+        9999999,
+        "run 9999999, entry 6: third-third-third-third-third-32 holds alpha-alpha-alpha-alpha-alpha-32:
+  bcast 1 0 from left-left-left-left-left-left-32
+",
+    )
+}
+
+// What an earlier book gave is held before, and no later run gives it.
 #[test]
 fn held_before(rt: HostRuntime) -> Result<(), Fail> {
     let first = policy(&rt, FOUR_BANKS);
@@ -385,6 +435,7 @@ fn held_before(rt: HostRuntime) -> Result<(), Fail> {
     let Ok(policy) = after else {
         panic!(&rt; "the book is not sound")
     };
+    is_given(&rt, &policy, "book 2\nend 0\n", 2, "")?;
     is_told(
         &rt,
         &policy,

@@ -3,7 +3,8 @@ use crate::days::{ALPHA_TO_N0, BETA_NOT_TO_N0, DAY_ONE, DAY_TWO};
 use book_stream::AuditFault;
 use chain_file::{ChainFile, EnterFault, Path};
 use chain_runs::{
-    Broken, EndFault, FileSystem, Past, RunFault, end_run, read_begun, read_next, read_runs,
+    Broken, EndFault, FileSystem, Past, RunFault, end_run, read_begun, read_behind, read_next,
+    read_runs,
 };
 use sha2::{Digest, Sha256};
 use std::process::Abort;
@@ -128,6 +129,24 @@ fn runs_stand_behind_one_another(rt: HostRuntime) {
             .iter()
             .any(|held| (Some(held.0), Some(held.1)) == pair)
     );
+}
+
+/// One after the other they come to what all of them come to.
+#[test]
+fn runs_are_read_one_by_one(rt: HostRuntime) {
+    let file = two_runs(&rt);
+    let shelf = both_days();
+    let mut past = Past {
+        policy: None,
+        entries: 0,
+    };
+    for run in file.ended() {
+        past = match read_behind(rt.alloc(), &shelf, &past, run) {
+            Ok(past) => past,
+            Err(_) => panic!(&rt; "a run does not stand"),
+        };
+    }
+    assert!(&rt; past.entries == 10);
 }
 
 // How the run that is under way ends by this book, if not well.

@@ -1,4 +1,4 @@
-use Rattle.std.proofs.Common.{◌≡◌, ◌+◌, [], drop, take, length, refl, sym, ap, subst, ◌∙◌, arith}
+use Rattle.std.proofs.Common.{◌≡◌, ◌+◌, [], ◌∷◌, drop, take, length, refl, sym, ap, subst, ◌∙◌, arith}
 use Rattle.std.proofs.lemmas.List.{length-take-le}
 use Rattle.std.proofs.Math.Seq.{take-length}
 use Rattle.chain_runs.specs.Chains.{IsPast, entries_of}
@@ -32,10 +32,13 @@ returns-in-Err-clause-broken g c =
 pub loop-run-preserved : goal.loop-run-preserved
 loop-run-preserved g c = (
   ap (λ n. n + 1) c.loop-run.invariant.0,
-  next_past g.F.Reader.Source.failures g.F.Reader.Source.remaining g.F.FileSystem.is_at
-      c.args.runs.now c.loop-run.run-index c.run-item.result c.loop-run-test.true c.run-item.is
-      c.loop-run.invariant.1.0 c.loop-run.past c.in-Ok.longer c.loop-run.invariant.1.1
-      c.in-Ok.ensures.read,
+  (
+    c.in-Ok.ensures.read.1 ∷ c.loop-run.invariant.1.0,
+    next_past g.F.Reader.Source.failures g.F.Reader.Source.remaining g.F.FileSystem.is_at
+        c.args.runs.now c.loop-run.run-index c.run-item.result c.loop-run-test.true c.run-item.is
+        c.loop-run.invariant.1.0 c.loop-run.past c.in-Ok.longer c.loop-run.invariant.1.1
+        c.in-Ok.ensures.read,
+  ),
 )
 
 pub returns-clause-stand : goal.returns-clause-stand

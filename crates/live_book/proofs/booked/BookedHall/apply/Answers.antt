@@ -23,6 +23,11 @@ returns-clause-carries g c = rw (← c.self.view_is) (λ wall run legal stands.
           c.self.inside.writer.sink)
           (sink_value g.B.Sink.contents g.B.BookSink.lasting g.B.Sink.failures
           c.write_down.new.self.sink)
+          (record { entries = c.self.inside.writer.entries; hasher = c.self.inside.writer.hasher })
+          (record {
+            entries = c.write_down.new.self.entries;
+            hasher = c.write_down.new.self.hasher;
+          })
           c.self.inside.writer.fault c.write_down.new.self.fault run
           (entry c.args.call c.apply-reply.result) c.apply-reply.new.self.hall.policy
           c.self.inside.hall.news c.apply-reply.new.self.news c.self.invariant.news after.1.0
@@ -37,6 +42,13 @@ returns-clause-carries g c = rw (← c.self.view_is) (λ wall run legal stands.
           (c.self.invariant.entries none)
           (c.write_down.ensures.too_long none
           (at ∙ ap (λ (f : Unbooked). Some f) long)))
+          (λ whole. (
+            c.write_down.ensures.before whole,
+            record {
+              entries = c.write_down.ensures.entries whole;
+              holds = c.write_down.ensures.holds whole;
+            },
+          ))
           stands,
       after.2,
     ))

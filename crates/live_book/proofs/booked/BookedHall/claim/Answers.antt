@@ -12,6 +12,7 @@ returns-clause-carries g c = rw (← c.self.view_is) (λ wall run legal stands.
           g.K.Begun.begun
           (sink_value g.B.Sink.contents g.B.BookSink.lasting g.B.Sink.failures
           c.self.inside.writer.sink)
+          (record { entries = c.self.inside.writer.entries; hasher = c.self.inside.writer.hasher })
           c.self.inside.writer.fault run (claim_entry c.args.process c.args.request c.claim.result)
           after.1 refl stands,
       after.2,

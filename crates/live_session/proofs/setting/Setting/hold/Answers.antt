@@ -1,4 +1,5 @@
-use Rattle.std.proofs.Common.{rules, ℕ, ◌≡◌, ◌<◌, ◌∙◌, length, take, refl, ap, sym, subst}
+use Rattle.std.proofs.Common.{rules, ℕ, ◌≡◌, ◌<◌, ◌∙◌, None, length, take, refl, ap, sym, subst}
+use Rattle.std.specs.Prelude.{option_map}
 use Rattle.hall_turn.specs.Known.{Doorway}
 use Rattle.live_session.proofs.SessionLemmas.{going_none, going_on, served_till_stop, served_to_end}
 use Rattle.live_session.specs.Sessions.{Stood}
@@ -17,20 +18,22 @@ loop-init g c =
       same = (refl, refl);
       legal = c.requires.legal;
       counts = none_counts c.args.self.now.most c.args.caller.now.calls pass c.requires.none;
-      going = subst (λ (k : ℕ). Going (Stood g.M.Machine.stands g.M.Machine.booked)
+      going = rw c.requires.unreceipted
+          (subst (λ (k : ℕ). Going (Stood g.M.Machine.stands g.M.Machine.booked)
           c.args.self.now.most g.S.Desk.heard wall
           (used g.S.Desk.failures g.S.Desk.remaining c.args.source.now c.args.source.now)
           (used g.O.Sink.failures g.O.Sink.contents c.args.sink.now c.args.sink.now) pass
-          c.new-line.result k pass) (sym c.requires.none)
+          c.new-line.result None k pass) (sym c.requires.none)
           (going_none (Stood g.M.Machine.stands g.M.Machine.booked) c.args.self.now.most
           g.S.Desk.failures g.S.Desk.remaining g.S.Desk.heard g.O.Sink.failures
           g.O.Sink.contents wall pass c.new-line.result c.args.source.now c.args.sink.now is
-          c.requires.legal c.new-line.ensures);
+          c.requires.legal c.new-line.ensures));
     }
 
 pub loop-preserved : goal.loop-preserved
 loop-preserved g c =
     let i = c.loop.invariant in
+    let covers = option_map g.T.Receipt.covers in
     let e = c.in-Ok-take_in.ensures in
     let t = e.takes i.going.line i.going.holds in
     record {
@@ -44,6 +47,7 @@ loop-preserved g c =
           c.args.self.now.policy.now c.args.pass.now c.loop.pass c.take_in.new.pass
           c.loop.lines.line c.take_in.new.lines.line c.args.source.now c.loop.source
           c.hear.new.self c.take_in.new.source c.args.sink.now c.loop.sink c.take_in.new.sink
+          (covers c.loop.caller.receipt) (covers c.take_in.new.caller.receipt)
           c.loop.caller.calls c.take_in.new.caller.calls
           (take c.in-Ok.n c.hear.new.buffer) i.going
           c.in-Ok.ensures.went c.in-Ok.ensures.bytes.0 c.in-Ok.ensures.tells
@@ -58,7 +62,7 @@ returns-then-n-eq0-clause-serves g c =
     g.S.Desk.failures g.S.Desk.remaining g.S.Desk.heard g.O.Sink.failures
     g.O.Sink.contents c.args.self.now.policy.now c.args.pass.now c.loop.pass c.loop.lines.line
     c.args.source.now c.loop.source c.hear.new.self c.args.sink.now c.loop.sink
-    c.loop.caller.calls
+    (option_map g.T.Receipt.covers c.loop.caller.receipt) c.loop.caller.calls
     (take c.in-Ok.n c.hear.new.buffer) (took_none c.in-Ok.n c.hear.new.buffer zero)
     c.loop.invariant.going c.loop.invariant.counts.within c.in-Ok.ensures.went c.in-Ok.ensures.bytes.0
     (c.in-Ok.ensures.bytes.1 zero room) c.in-Ok.ensures.tells c.hear.ensures.shows
@@ -66,12 +70,14 @@ returns-then-n-eq0-clause-serves g c =
 pub returns-in-Err-take_in-clause-serves : goal.returns-in-Err-take_in-clause-serves
 returns-in-Err-take_in-clause-serves g c =
     let i = c.loop.invariant in
+    let covers = option_map g.T.Receipt.covers in
     served_till_stop (Stood g.M.Machine.stands g.M.Machine.booked) c.args.self.now.most
     g.S.Desk.failures g.S.Desk.remaining g.S.Desk.heard g.O.Sink.failures
     g.O.Sink.contents
     c.args.self.now.policy.now c.args.pass.now c.loop.pass c.take_in.new.pass c.loop.lines.line
     c.args.source.now c.loop.source c.hear.new.self c.take_in.new.source c.args.sink.now
-    c.loop.sink c.take_in.new.sink c.loop.caller.calls c.take_in.new.caller.calls
+    c.loop.sink c.take_in.new.sink (covers c.loop.caller.receipt)
+    (covers c.take_in.new.caller.receipt) c.loop.caller.calls c.take_in.new.caller.calls
     (take c.in-Ok.n c.hear.new.buffer) c.in-Err-take_in.end i.going
     c.in-Err-take_in.ensures.counts.within c.in-Ok.ensures.went
     c.in-Ok.ensures.bytes.0 c.in-Ok.ensures.tells c.hear.ensures.shows

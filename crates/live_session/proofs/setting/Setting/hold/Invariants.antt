@@ -1,4 +1,5 @@
 use Rattle.std.proofs.Common.{◌≡◌, []}
+use Rattle.std.specs.Prelude.{option_map}
 use Rattle.run_model.specs.Replies.{Legal}
 use Rattle.hall_turn.specs.Answers.{IsSamePass}
 use Rattle.hall_script.specs.Devices.{used}
@@ -17,5 +18,5 @@ invariant-loop g l = record {
       l.self.policy.now
       (used g.S.Desk.failures g.S.Desk.remaining l.fn.source l.source)
       (used g.O.Sink.failures g.O.Sink.contents l.fn.sink l.sink) l.fn.pass l.lines.line
-      l.caller.calls l.pass;
+      (option_map g.T.Receipt.covers l.caller.receipt) l.caller.calls l.pass;
 }

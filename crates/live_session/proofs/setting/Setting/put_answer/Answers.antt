@@ -1,4 +1,4 @@
-use Rattle.std.proofs.Common.{◌∙◌, ap, refl, sym}
+use Rattle.std.proofs.Common.{◌∙◌, inl, ap, refl, sym}
 use Rattle.hall_turn.specs.Known.{Doorway}
 use Rattle.live_session.specs.Lines.{said, bad_line}
 use Rattle.live_session.specs.Sessions.{Stood}
@@ -15,10 +15,13 @@ returns-in-Ok-clause-puts g c =
     (said wall.dataset_names bytes) bad
     (c.args.self.now.its ∙ ap (λ (d : Doorway). d.policy) (sym c.requires.door)) c.requires.legal
     (c.in-Ok-Err.ensures.reads bytes h ∙ c.in-Ok-Err.field-0-is) in (
-      bad,
-      none.0,
+      inl (
+        bad,
+        none.0,
+        put_alone c.args.lines.now.text.items c.put.new.text.items c.bad_line.result.now
+            c.in-Ok.ensures.ok c.requires.none (bad_line bad) c.bad_line.ensures,
+      ),
       none.1,
       refl,
-      put_alone c.args.lines.now.text.items c.put.new.text.items c.bad_line.result.now
-          c.in-Ok.ensures.ok c.requires.none (bad_line bad) c.bad_line.ensures,
+      refl,
     )

@@ -12,8 +12,9 @@ returns-in-Err-requests-clause-serves g c =
     let pass = c.args.pass.now in
     let is : wall ≡ pass.door.policy =
     c.args.self.now.its ∙ ap (λ (d : Doorway). d.policy) (sym c.requires.door) in
-    served_nothing (Stood g.M.Machine.stands g.M.Machine.booked) c.args.self.now.most
+    rw c.from-end.ensures
+    (served_nothing (Stood g.M.Machine.stands g.M.Machine.booked) c.args.self.now.most
     g.S.Desk.failures g.S.Desk.remaining g.S.Desk.heard g.O.Sink.failures
     g.O.Sink.contents
     wall pass c.args.source.now c.args.sink.now is
-    (subst (λ (w : ChineseWall). Legal w pass.seen) (sym is) c.process.ensures.legal)
+    (subst (λ (w : ChineseWall). Legal w pass.seen) (sym is) c.process.ensures.legal))

@@ -1,4 +1,5 @@
 use Rattle.std.proofs.Common.{◌≡◌, ℕ, List, [], ◌∷◌, length}
+use Rattle.std.specs.Prelude.{option_map}
 use Rattle.run_model.specs.Replies.{Legal}
 use Rattle.hall_turn.specs.Answers.{IsSamePass}
 use Rattle.hall_script.specs.Devices.{used}
@@ -16,7 +17,9 @@ invariant-loop-part g l = record {
   so_far : (start : List ℕ) → Holds l.fn.lines.line start → (line : List ℕ)
       × Holds l.lines.line line × SoFar (Stood g.M.Machine.stands g.M.Machine.booked)
       l.self.most l.self.policy.now l.fn.pass (behind start (parts 10 l.bytes)) (line ∷ l.parts)
-      (showing g.S.Desk.heard l.fn.source l.source)
+      (showing g.S.Desk.heard l.fn.source l.source
+      (option_map g.T.Receipt.covers l.fn.caller.receipt)
+      (option_map g.T.Receipt.covers l.caller.receipt))
       (used g.O.Sink.failures g.O.Sink.contents l.fn.sink l.sink)
       (counting l.fn.caller.calls l.caller.calls) l.pass;
   counts : Counts l.self.most l.caller.calls l.pass;

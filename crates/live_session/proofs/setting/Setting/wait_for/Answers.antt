@@ -5,16 +5,16 @@ use Rattle.live_session.specs.declared.acting.Came.{Came}
 use Rattle.live_session.specs.Sessions.{Stood}
 use Rattle.live_session.specs.Steps.{CameNamesKnown, CameTo, Counts, came_of, counting}
 use Rattle.live_session.proofs.SessionLemmas.{at_door, came_known, spent_came, still_some}
-use Rattle.live_session.proofs.SessionLemmas.{no_wait, wait_came, wait_counts}
+use Rattle.live_session.proofs.SessionLemmas.{wait_came, wait_counts}
 use Rattle.live_session.proofs.setting.Setting.wait_for.Goals as goal
 
 pub returns-then-not-may_call-clause-came : goal.returns-then-not-may_call-clause-came
 returns-then-not-may_call-clause-came g c =
     let pass = c.args.pass.now in
+    let were = option_map g.T.Receipt.covers c.args.caller.now.receipt in
     let no : c.may_call.result ≡ false = search rules in
     spent_came (Stood g.M.Machine.stands g.M.Machine.booked) c.args.self.now.most
-    c.args.caller.now.calls pass (Wait c.args.request) (option_map g.T.Receipt.covers c.args.receipt.now)
-    (no_wait (Wait c.args.request) c.args.request refl)
+    c.args.caller.now.calls pass (Wait c.args.request) were were tt
     (at_door c.args.self.now.door.now pass pass.seen c.requires.door c.requires.legal)
     (c.may_call.ensures.over no) c.requires.counts
 
@@ -27,13 +27,16 @@ returns-clause-came g c =
     let new = c.wait-answer.new.pass in
     let answer = c.wait-answer.result in
     let are = option_map g.T.Receipt.covers c.wait-answer.new.receipt in
-    subst (λ (it : Came). CameTo stood most pass (Wait c.args.request) it are
+    let were = option_map g.T.Receipt.covers c.args.caller.now.receipt in
+    rw c.came_of.ensures.receipt
+    (subst (λ (it : Came). CameTo stood most pass (Wait c.args.request) it were are
     (counting calls c.came_of.new.caller.calls) new)
     (sym (c.came_of.ensures.came are (still_some g.T.Receipt.covers c.wait-answer.new.receipt
-    c.is_some.result c.is_some.ensures)))
-    (subst (λ (m : ℕ). CameTo stood most pass (Wait c.args.request) (came_of answer are) are
+    c.is_some-is_booked.result c.is_some-is_booked.ensures)))
+    (subst (λ (m : ℕ). CameTo stood most pass (Wait c.args.request) (came_of answer are) were are
     (counting calls m) new) (sym c.came_of.ensures.calls)
-    (wait_came stood most calls pass new c.args.request answer are c.wait-answer.ensures.waited))
+    (wait_came stood most calls pass new c.args.request answer were are
+    c.wait-answer.ensures.waited)))
 
 pub returns-clause-counts : goal.returns-clause-counts
 returns-clause-counts g c =
@@ -55,5 +58,5 @@ returns-clause-named g c =
     let are = option_map g.T.Receipt.covers c.wait-answer.new.receipt in
     subst (CameNamesKnown wall)
     (sym (c.came_of.ensures.came are (still_some g.T.Receipt.covers c.wait-answer.new.receipt
-    c.is_some.result c.is_some.ensures)))
+    c.is_some-is_booked.result c.is_some-is_booked.ensures)))
     (came_known wall c.wait-answer.result are c.wait-answer.ensures.named)

@@ -1,6 +1,6 @@
 use Rattle.std.proofs.Common.{rules, ◌≡◌, refl, sym, ◌∙◌}
 use Rattle.wall_labels.specs.declared.memory.Fuse.TheVariants.{Whole}
-use Rattle.program_commands.proofs.chain_report.pass_text.Goals as goal
+use Rattle.program_commands.proofs.chain_again.pass_text.Goals as goal
 
 pub returns-in-Err : goal.returns-in-Err
 returns-in-Err c = record {

@@ -1,7 +1,7 @@
 use Rattle.std.proofs.Common.{◌+◌, refl, sym, ap, subst, ◌∙◌, arith}
 use Rattle.chain_runs.specs.Runs.{IsChainAfter}
 use Rattle.chain_runs.proofs.ChainLemmas.{stands_behind, not_read}
-use Rattle.chain_runs.proofs.runs.read_next.Goals as goal
+use Rattle.chain_runs.proofs.runs.read_behind.Goals as goal
 
 pub returns-in-Some-clause-read : goal.returns-in-Some-clause-read
 returns-in-Some-clause-read g c =
