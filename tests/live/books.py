@@ -1,4 +1,5 @@
 """The book on the disk: servers that are killed, disks that are full, and what was told before."""
+import fcntl
 import mmap
 import os
 import pathlib
@@ -264,6 +265,66 @@ def books_are_locked(given):
     want(locked.returncode, 0, "whether the book is free afterwards")
 
 
+def commands_on_a_book(house, book, other):
+    """The command lines that read a book as one, or write over it."""
+    program, policy, script = house.program, str(house.policy), str(house.folder / "script.txt")
+    out, after = str(house.folder / "out.txt"), ["--after", book]
+    reads = [["audit", policy, book], ["report", policy, book], ["seal", policy, book, out],
+             ["check", policy, "--book", book], ["audit", policy, other, *after],
+             ["check", policy, "--book", other, *after], ["replay", policy, script, *after],
+             ["run", policy, script, *after], ["seal", policy, other, out, *after],
+             ["report", policy, other, *after], ["serve", policy, str(house.pipes), *after]]
+    writes = [["replay", policy, script, "--book", book], ["run", policy, script, "--book", book],
+              ["report", policy, other, "--html", book]]
+    return [[program, *words] for words in reads], [[program, *words] for words in writes]
+
+
+def books_of_others(given):
+    """No command reads a book that a server writes, or writes over it, by whatever name; none writes
+    over a book that another reads, or that it reads itself."""
+    house = House(given.program, neutral(1)).start()
+    raw = Raw(house, "p0")
+    want(raw.ask("post 0 barrier"), "posted 0", "a post")
+    (house.folder / "script.txt").write_text("info 0 0\n", encoding="utf-8")
+    live, other, link = str(house.book), house.folder / "other.txt", house.folder / "link.txt"
+    link.symlink_to(house.book)
+    subprocess.run([given.program, "replay", str(house.policy), str(house.folder / "script.txt"),
+                    "--book", str(other)], check=True, stdout=subprocess.DEVNULL)
+
+    def refused(words, book, what):
+        done = subprocess.run(words, capture_output=True, text=True, timeout=60, check=False)
+        want((done.returncode, done.stdout, done.stderr), (3, "", f"book in use: {book}\n"), what)
+
+    before = house.book.read_bytes()
+    for book in (live, str(link)):
+        reads, writes = commands_on_a_book(house, book, str(other))
+        for words in reads + writes:
+            refused(words, book, f"{words[1:]} beside a server")
+    want(house.book.read_bytes(), before, "the book behind all of them")
+    want((house.folder / "out.txt").exists(), False, "what a seal has made")
+    want(raw.ask("leave"), "left", "the leave")
+    house.end()
+    house.mark()
+    # From then on it is read; and while another reads it, not written over.
+    reads, writes = commands_on_a_book(house, live, str(other))
+    with open(house.book, "rb") as book:
+        fcntl.flock(book, fcntl.LOCK_SH)
+        for words in reads[:4]:
+            done = subprocess.run(words, capture_output=True, text=True, timeout=60, check=False)
+            want((done.returncode, done.stderr), (0, ""), f"{words[1:]} beside a reader")
+        for words in writes:
+            refused(words, live, f"{words[1:]} beside a reader")
+    refused([given.program, "report", str(house.policy), live, "--html", str(link)], str(link),
+            "a page over its own book")
+    house.audit()
+    # What is no plain file takes no lock.
+    text = house.book.read_text(encoding="utf-8")
+    for words in (writes[0][:-1] + ["/dev/null"], reads[0][:-1] + ["/dev/stdin"]):
+        done = subprocess.run(words, input=text, capture_output=True, text=True, timeout=60,
+                              check=False)
+        want((done.returncode, done.stderr), (0, ""), f"{words[1:]}")
+
+
 def of_three(given, *books):
     """A server on a wall over days: two banks and a consultant, after these books, the oldest
     first."""
@@ -347,5 +408,5 @@ def syncs_that_fail(given):
         want(len(sealed(house)) - 2 in (4, 6), True, "what the book has at least")
 
 
-TESTS = [book_is_ahead, books_are_locked, waits_end_where_the_book_does, full_disks,
+TESTS = [book_is_ahead, books_are_locked, books_of_others, waits_end_where_the_book_does, full_disks,
          killed_servers, killed_after_earlier_books, syncs_that_fail]

@@ -370,6 +370,36 @@ def stopped_anywhere(given):
     want(beside.exists(), False, "what is left beside it")
 
 
+def nothing_of_a_chain_is_written_over(given):
+    """A replay, a run or a report behind a chain writes over no policy, no book and no chain file of
+    it, by whatever name."""
+    years = Years(given)
+    houses = [a_day(years, 0, "alpha", "delivered [7]") for _ in range(2)]
+    script = years.folder / "script.txt"
+    script.write_text("info 0 0\n", encoding="utf-8")
+    link = years.folder / "link.txt"
+    mine = [years.chain, *(house.book for house in houses), *(house.policy for house in houses)]
+    before = [path.read_bytes() for path in mine]
+    policy = str(houses[1].policy)
+    for path in mine:
+        link.unlink(missing_ok=True)
+        os.link(path, link)
+        for name in (path, link):
+            for words in (["replay", policy, str(script), "--book", str(name)],
+                          ["run", policy, str(script), "--book", str(name)],
+                          ["report", "--html", str(name)]):
+                done = years.command(*words)
+                told = (5, "bad arguments\n") if name == years.chain \
+                    else (3, f"book exists: {name}\n")
+                want((done.returncode, done.stderr), told, f"{words} over {path.name}")
+    want([path.read_bytes() for path in mine], before, "what the chain has")
+    link.unlink()
+    link.write_bytes(b"mine")
+    done = years.command("replay", policy, str(script), "--book", str(link))
+    want((done.returncode, done.stderr), (0, ""), "a replay over another file")
+    want(link.read_text(encoding="utf-8").splitlines()[-1], "end 0", "the book of a replay")
+
+
 def on_a_full_disk(house, size):
     """How a server of the chain ends whose files take so many bytes, and all of whose processes leave
     at once where it begins."""
@@ -463,6 +493,6 @@ def many_runs(given):
         raise Wrong(f"{few:.3f} s for 1,000 runs, and {many:.3f} s for 10,000")
 
 
-TESTS = [runs_of_three_years, policies_that_shrink, least_numbers_of_their_day, each_byte_is_told,
+TESTS = [runs_of_three_years, nothing_of_a_chain_is_written_over, policies_that_shrink, least_numbers_of_their_day, each_byte_is_told,
          one_server_goes_on, stopped_anywhere, lines_that_find_no_room, killed_while_it_ends,
          many_runs]

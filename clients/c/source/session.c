@@ -169,7 +169,7 @@ int session_read(struct reply *reply) {
         if (end != NULL) {
             told += (size_t)(end - line) + 1;
             reply_read(line, (size_t)(end - line), reply);
-            bool is_over = reply->answer == EXHAUSTED || reply->answer == UNBOOKED;
+            bool is_over = reply->answer >= EXHAUSTED;
             return is_over ? gone() : MPI_SUCCESS;
         }
         looked = length;

@@ -98,8 +98,9 @@ class Stuck(ConsortiumError):
 
 
 class Gone(ConsortiumError):
-    """The session is over. `cause` says why: "ended" (by the server), "unread" (nobody reads the
-    calls), "exhausted", "unbooked", "left" or "absent" (nobody opened the pipes in time).
+    """The session is over. `cause` says why: "dismissed" (by the operator), "over" (the operator
+    has ended the run), "ended" (the replies end), "unread" (nobody reads the calls), "exhausted",
+    "unbooked", "left" or "absent" (nobody opened the pipes in time).
 
     >>> Gone("ended", "the server has ended the session of solo").cause
     'ended'

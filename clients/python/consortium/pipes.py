@@ -83,7 +83,7 @@ class Pipes:
         except BaseException:
             os.close(self._replies)
             raise
-        self.is_open, self._is_joined = True, False
+        self.is_open, self._is_joined, self._is_unread = True, False, False
         self._unwritten: bytes = b""
         self._pieces: List[bytes] = []
         self._owed: Deque[Callable[[bytes], None]] = deque()
@@ -113,12 +113,13 @@ class Pipes:
         self._flush()
 
     def _flush(self) -> None:
-        """Writes what is left of a line. Interrupted, it goes on where it was."""
+        """Writes what is left of a line. Interrupted, it goes on where it was. Where nobody reads
+        the calls, the replies have an end, and perhaps a last word before it."""
         try:
             while self._unwritten:
                 self._unwritten = self._unwritten[os.write(self._calls, self._unwritten):]
         except BrokenPipeError:
-            raise Gone("unread", "nobody reads the calls") from None
+            self._unwritten, self._is_unread = b"", True
 
     def settle(self, timeout: Optional[float] = None) -> None:
         """Reads all replies that are owed, or raises `Late`.
@@ -135,6 +136,8 @@ class Pipes:
         while not self._pieces or b"\n" not in self._pieces[-1]:
             self._await(end)
             piece = os.read(self._replies, PIECE)
+            if not piece and self._is_unread:
+                raise Gone("unread", "nobody reads the calls")
             if not piece:
                 raise Gone("ended", "the server has ended the session")
             self._pieces.append(piece)

@@ -190,4 +190,8 @@ def words_of(reply: bytes, call: str) -> List[bytes]:
         raise Gone("exhausted", "exhausted: the server takes no more calls")
     if word == b"unbooked":
         raise Gone("unbooked", "unbooked: the server cannot write its book any more")
+    if word == b"dismissed":
+        raise Gone("dismissed", "dismissed: the operator has put this process out")
+    if word == b"ended":
+        raise Gone("over", "ended: the operator has ended the run")
     return [word] + rest.split()

@@ -5,7 +5,7 @@
 //! contract can say. `tests/live` looks at all but the last, with the built program.
 ghost use Rattle.program_line.specs.Kinds.{Opens};
 
-use crate::loss::{Lost, TellsLoss};
+use crate::loss::{Lost, TellsBook};
 use live_book::{BookSink, SinkReceipt};
 use program_commands::{Ending, Unready, end, refuse};
 use program_files::{Count, only_new, write_again};
@@ -36,14 +36,14 @@ pub(crate) struct CountedBook<T> {
 
 /// The book's file, while a server writes to it.
 #[derive(Drop)]
-pub(crate) struct BookFile<L: Ledger, T: TellsLoss + Drop> {
+pub(crate) struct BookFile<L: Ledger, T: TellsBook + Drop> {
     file: File,
     failures: Count<L>,
     is_synced: bool,
     told: T,
 }
 
-impl<L: Ledger, T: TellsLoss + Drop> BookFile<L, T> {
+impl<L: Ledger, T: TellsBook + Drop> BookFile<L, T> {
     /// To be written to this file.
     pub(crate) fn new(counted: CountedBook<T>) -> BookFile<L, T>
         requires { Opens counted.blank L.name L.parts }
@@ -64,7 +64,7 @@ impl<L: Ledger, T: TellsLoss + Drop> BookFile<L, T> {
     }
 }
 
-impl<L: Ledger, T: TellsLoss + Drop> Sink for BookFile<L, T> {
+impl<L: Ledger, T: TellsBook + Drop> Sink for BookFile<L, T> {
     ghost failures = { λ s. s.failures };
 
     // (The file is there already. What the system says of it goes to the operator at once.)
@@ -74,11 +74,14 @@ impl<L: Ledger, T: TellsLoss + Drop> Sink for BookFile<L, T> {
         }
         let lost = match write_again(&mut self.file, bytes) {
             Ok(0) => Lost::Untaken,
-            Ok(n) => return Ok(n),
+            Ok(n) => {
+                self.told.written(&bytes[..n]);
+                return Ok(n);
+            }
             Err(error) => Lost::by(&error),
         };
         self.failures.rise();
-        self.told.tell(lost);
+        self.told.lost(lost);
         Err(Failed)
     }
 }
@@ -92,7 +95,7 @@ pub(crate) struct FileReceipt {
 
 impl SinkReceipt for FileReceipt {}
 
-impl<L: Ledger, T: TellsLoss + Drop> BookSink for BookFile<L, T> {
+impl<L: Ledger, T: TellsBook + Drop> BookSink for BookFile<L, T> {
     type Receipt = FileReceipt;
 
     fn settled(&mut self) -> Result<(), Failed> {
@@ -104,7 +107,7 @@ impl<L: Ledger, T: TellsLoss + Drop> BookSink for BookFile<L, T> {
             Err(error) => Lost::by(&error),
         };
         self.failures.rise();
-        self.told.tell(lost);
+        self.told.lost(lost);
         Err(Failed)
     }
 

@@ -1,5 +1,6 @@
 //! The desk of a process: its two named pipes, opened as its session begins and closed as soon as
-//! it has ended, by the thread of that session.
+//! it has ended, by the thread of that session. Where the operator has put the process out, or has
+//! ended the run, nothing more is read there, and the last line that is written says so.
 //!
 //! No contract can say what a pipe gives or takes, so this is what the proof stands on: that the
 //! bytes which are read are those of the process's calls, and that those which are written go to
@@ -36,17 +37,18 @@ impl Opened {
 }
 
 /// Where a process is served. Its two devices share it, and no other thread than theirs opens,
-/// reads, writes or closes there, so its lock is always free.
+/// reads, writes or closes there, so the lock of what is open is always free. The operator's thread
+/// has its part in the attendance alone.
 #[derive(Drop)]
-pub(crate) struct PipeDesk<'a, 'n, R: Wait> {
-    rt: &'a R,
-    files: &'a HostRuntime,
+pub(crate) struct PipeDesk<'r, 'a, 'n, R: Wait> {
+    rt: &'r R,
+    files: &'r HostRuntime,
     pipes: &'a Pipes<'n>,
     opened: Mutex<Opened>,
     events: &'a Events<'n>,
 }
 
-impl<'a, 'n, R: Wait> PipeDesk<'a, 'n, R> {
+impl<'r, 'a, 'n, R: Wait> PipeDesk<'r, 'a, 'n, R> {
     // Opens the replies, and then the calls: each waits for the other side. Neither is ever made.
     // What was opened is looked at once more.
     fn open_both(&self) -> Result<Opened, Shut> {
@@ -85,13 +87,32 @@ impl<'a, 'n, R: Wait> PipeDesk<'a, 'n, R> {
 
     // Why the process has left, where its session ended so.
     fn why(&self, end: SessionEnd) -> Why {
-        match self.opened.lock(self.rt).shut {
-            Some(shut) => Why::Shut(shut),
+        if let Some(shut) = self.opened.lock(self.rt).shut {
+            return Why::Shut(shut);
+        }
+        match self.pipes.attendance.told(self.rt) {
+            Some(word) => Why::Told(word),
             None => Why::End(end),
         }
     }
 
+    // What the client wrote. What comes when the session is to end is not looked at: there may be
+    // an LF of the operator's thread in it, which was to wake this one.
     fn read(&self, buffer: &mut [u8]) -> Option<usize>
+        ensures { IfSome result (λ n. n ≤ length buffer.new) }
+    {
+        if !self.pipes.attendance.begin_read(self.rt) {
+            return Some(0);
+        }
+        let read = self.read_calls(buffer);
+        if self.pipes.attendance.end_read(self.rt) {
+            read
+        } else {
+            Some(0)
+        }
+    }
+
+    fn read_calls(&self, buffer: &mut [u8]) -> Option<usize>
         ensures { IfSome result (λ n. n ≤ length buffer.new) }
     {
         let mut opened = self.opened.lock(self.rt);
@@ -129,20 +150,26 @@ fn count<R: Wait>(rt: &R, failures: &mut u64)
 
 /// The calls of a process. It is at its desk: they are opened there, with the replies.
 #[derive(Drop)]
-pub(crate) struct PipeSource<'d, 'a, 'n, R: Wait> {
-    desk: &'d PipeDesk<'a, 'n, R>,
+pub(crate) struct PipeSource<'d, 'r, 'a, 'n, R: Wait> {
+    desk: &'d PipeDesk<'r, 'a, 'n, R>,
     failures: u64,
 }
 
-impl<'d, 'a, 'n, R: Wait> Desk<PipeSink<'d, 'a, 'n, R>> for PipeSource<'d, 'a, 'n, R> {
+impl<'d, 'r, 'a, 'n, R: Wait> Desk<PipeSink<'d, 'r, 'a, 'n, R>> for PipeSource<'d, 'r, 'a, 'n, R> {
     ghost failures = { λ s. s.failures };
 
-    // Where a pipe cannot be opened any more, the first read fails.
+    // Where a pipe cannot be opened any more, the first read fails. (Where the operator's thread
+    // has opened the other ends, since the session is to end, nobody came.)
     fn open(&self) {
+        if self.desk.pipes.attendance.is_ended(self.desk.rt) {
+            return;
+        }
         match self.desk.open_both() {
             Ok(opened) => {
                 self.desk.keep(opened);
-                self.desk.tell(Event::Came(self.desk.pipes.name));
+                if self.desk.pipes.attendance.come(self.desk.rt) {
+                    self.desk.tell(Event::Came(self.desk.pipes.name));
+                }
             }
             Err(shut) => self.desk.keep(Opened::none(Some(shut))),
         }
@@ -150,7 +177,7 @@ impl<'d, 'a, 'n, R: Wait> Desk<PipeSink<'d, 'a, 'n, R>> for PipeSource<'d, 'a, '
 
     fn hear(
         &mut self,
-        _sink: &PipeSink<'d, 'a, 'n, R>,
+        _sink: &PipeSink<'d, 'r, 'a, 'n, R>,
         buffer: &mut [u8],
     ) -> Result<usize, Failed> {
         match self.desk.read(buffer) {
@@ -164,26 +191,33 @@ impl<'d, 'a, 'n, R: Wait> Desk<PipeSink<'d, 'a, 'n, R>> for PipeSource<'d, 'a, '
 
     fn close(&self, end: SessionEnd, calls: u64) {
         let why = self.desk.why(end);
+        // (All answers before it were written whole.)
+        if let Why::Told(word) = why {
+            let _ = self.desk.write(word.line().as_bytes());
+        }
         self.desk.keep(Opened::none(None));
+        self.desk.pipes.attendance.leave(self.desk.rt, calls, why);
         self.desk
             .tell(Event::Left(self.desk.pipes.name, calls, why));
     }
 }
 
-impl<'d, 'a, 'n, R: Wait, T: Receipt> ShowDesk<PipeSink<'d, 'a, 'n, R>, T>
-    for PipeSource<'d, 'a, 'n, R> {
-    // The process itself is shown nothing but its reply.
-    fn show(&mut self, _sink: &PipeSink<'d, 'a, 'n, R>, _receipt: &T) {}
+impl<'d, 'r, 'a, 'n, R: Wait, T: Receipt> ShowDesk<PipeSink<'d, 'r, 'a, 'n, R>, T>
+    for PipeSource<'d, 'r, 'a, 'n, R> {
+    // The process itself is shown nothing but its reply. That there is one is counted.
+    fn show(&mut self, _sink: &PipeSink<'d, 'r, 'a, 'n, R>, _receipt: &T) {
+        self.desk.pipes.attendance.count(self.desk.rt);
+    }
 }
 
 /// The replies to a process.
 #[derive(Drop)]
-pub(crate) struct PipeSink<'d, 'a, 'n, R: Wait> {
-    desk: &'d PipeDesk<'a, 'n, R>,
+pub(crate) struct PipeSink<'d, 'r, 'a, 'n, R: Wait> {
+    desk: &'d PipeDesk<'r, 'a, 'n, R>,
     failures: u64,
 }
 
-impl<'d, 'a, 'n, R: Wait> Sink for PipeSink<'d, 'a, 'n, R> {
+impl<'d, 'r, 'a, 'n, R: Wait> Sink for PipeSink<'d, 'r, 'a, 'n, R> {
     ghost failures = { λ s. s.failures };
 
     fn write(&mut self, bytes: &[u8]) -> Result<usize, Failed> {
@@ -201,13 +235,13 @@ impl<'d, 'a, 'n, R: Wait> Sink for PipeSink<'d, 'a, 'n, R> {
 }
 
 /// A desk at each of these pipes, closed.
-pub(crate) fn desks_at<'a, 'n, R: Wait>(
-    rt: &'a R,
+pub(crate) fn desks_at<'r, 'a, 'n, R: Wait>(
+    rt: &'r R,
     alloc: Global,
-    files: &'a HostRuntime,
+    files: &'r HostRuntime,
     all: &'a [Pipes<'n>],
     events: &'a Events<'n>,
-) -> Result<Vec<PipeDesk<'a, 'n, R>>, AllocError> {
+) -> Result<Vec<PipeDesk<'r, 'a, 'n, R>>, AllocError> {
     let mut desks = Vec::new(alloc);
     for pipes in all {
         let opened = Mutex::new(Opened::none(None));
@@ -223,10 +257,10 @@ pub(crate) fn desks_at<'a, 'n, R: Wait>(
 }
 
 /// The devices of each desk, in order.
-pub(crate) fn peers_at<'d, 'a, 'n, R: Wait>(
+pub(crate) fn peers_at<'d, 'r, 'a, 'n, R: Wait>(
     alloc: Global,
-    desks: &'d [PipeDesk<'a, 'n, R>],
-) -> Result<Vec<Peer<PipeSource<'d, 'a, 'n, R>, PipeSink<'d, 'a, 'n, R>>>, AllocError> {
+    desks: &'d [PipeDesk<'r, 'a, 'n, R>],
+) -> Result<Vec<Peer<PipeSource<'d, 'r, 'a, 'n, R>, PipeSink<'d, 'r, 'a, 'n, R>>>, AllocError> {
     let mut peers = Vec::new(alloc);
     for desk in desks {
         let source = PipeSource { desk, failures: 0 };

@@ -3,7 +3,7 @@
 use crate::book_file::BookFile;
 use crate::chain::Unentered;
 use crate::events::Events;
-use crate::loss::TellsLoss;
+use crate::loss::TellsBook;
 use live_session::{Session, SessionEnd};
 use program_commands::{Ending, ServeEnd, end};
 use std::sync::Wait;
@@ -66,7 +66,7 @@ fn count_all<S: Drop, O: Drop>(sessions: Vec<Session<S, O>>, ended: &mut Ended) 
 
 /// Lets the devices of the sessions and the file of the book go, which is synced first where that
 /// is asked for.
-pub(crate) fn let_go<S: Drop, O: Drop, L: Ledger, T: TellsLoss + Drop>(
+pub(crate) fn let_go<S: Drop, O: Drop, L: Ledger, T: TellsBook + Drop>(
     served: ServeEnd<S, O, BookFile<L, T>>,
 ) -> Ended {
     let ServeEnd {

@@ -4,7 +4,8 @@
 //! and written by a thread of their own: so a standard output that nobody reads holds up no session.
 //! That the lines come whole, in their order and at once is tested, with the built program.
 
-use crate::loss::{Lost, TellsLoss};
+use crate::attendance::LastWord;
+use crate::loss::{Lost, TellsBook};
 use crate::pipes::Shut;
 use jiff::Timestamp;
 use live_session::SessionEnd;
@@ -24,12 +25,15 @@ pub(crate) enum Why {
     Shut(Shut),
     /// Its session ended so.
     End(SessionEnd),
+    /// It was ended from outside.
+    Told(LastWord),
 }
 
 impl Why {
-    fn text(self) -> &'static str {
+    pub(crate) fn text(self) -> &'static str {
         match self {
             Why::Shut(shut) => shut.text(),
+            Why::Told(word) => word.text(),
             Why::End(end) => match end {
                 SessionEnd::Left => "left",
                 SessionEnd::EndOfStream => "end of stream",
@@ -273,15 +277,61 @@ impl<'a> Events<'a> {
     }
 }
 
-/// Where the loss of a book is told.
+/// How long a book is.
+#[derive(Clone, Copy)]
+pub(crate) struct Length {
+    pub(crate) bytes: u64,
+    // How many of them are LFs: the first line has one, and each entry.
+    lines: u64,
+}
+
+impl Length {
+    pub(crate) fn entries(self) -> u64 {
+        self.lines.saturating_sub(1)
+    }
+}
+
+/// How long the book of a server is by now.
+#[derive(Drop)]
+pub(crate) struct BookLength {
+    length: Mutex<Length>,
+}
+
+impl BookLength {
+    /// Nothing of it was written yet.
+    pub(crate) fn new() -> BookLength {
+        BookLength {
+            length: Mutex::new(Length { bytes: 0, lines: 0 }),
+        }
+    }
+
+    pub(crate) fn now<R: Wait>(&self, rt: &R) -> Length {
+        *self.length.lock(rt)
+    }
+
+    fn add<R: Wait>(&self, rt: &R, bytes: &[u8]) {
+        let lines = bytes.iter().filter(|byte| **byte == b'\n').count();
+        let mut guard = self.length.lock(rt);
+        let length = &mut *guard;
+        length.bytes = length.bytes.saturating_add(bytes.len() as u64);
+        length.lines = length.lines.saturating_add(lines as u64);
+    }
+}
+
+/// Where it is told what became of a book.
 #[derive(Drop)]
 pub(crate) struct BookEvents<'e, 'n, R> {
     pub(crate) rt: &'e R,
     pub(crate) events: &'e Events<'n>,
+    pub(crate) length: &'e BookLength,
 }
 
-impl<'e, 'n, R: Wait> TellsLoss for BookEvents<'e, 'n, R> {
-    fn tell(&self, lost: Lost) {
+impl<'e, 'n, R: Wait> TellsBook for BookEvents<'e, 'n, R> {
+    fn written(&self, bytes: &[u8]) {
+        self.length.add(self.rt, bytes);
+    }
+
+    fn lost(&self, lost: Lost) {
         self.events.tell(self.rt, Event::Unbooked(lost));
     }
 }

@@ -60,15 +60,21 @@ impl Lost {
     }
 }
 
-/// Who is told that a book is lost, as soon as it is.
-pub(crate) trait TellsLoss {
-    fn tell(&self, lost: Lost);
+/// Who is told what becomes of a book, as soon as it is so.
+pub(crate) trait TellsBook {
+    /// These bytes were written to it.
+    fn written(&self, bytes: &[u8]);
+
+    /// It is lost.
+    fn lost(&self, lost: Lost);
 }
 
 /// Nobody is: the status says it.
 #[derive(Drop)]
 pub(crate) struct Silent {}
 
-impl TellsLoss for Silent {
-    fn tell(&self, _lost: Lost) {}
+impl TellsBook for Silent {
+    fn written(&self, _bytes: &[u8]) {}
+
+    fn lost(&self, _lost: Lost) {}
 }

@@ -14,18 +14,26 @@
 //! `consortium version` its version.
 #![tactic(auto)]
 
+mod answers;
+mod attendance;
 mod book_file;
 mod chain;
 mod desk;
 mod ended;
+mod ends;
 mod events;
 mod folder;
+mod held_books;
 mod loss;
+mod operator;
+mod orders;
 mod pipes;
 mod sealing;
 mod server;
+mod sessions;
 mod standard;
 
+use held_books::hold_books;
 pub use program_commands::{
     audit_after, audit_on, check_on, read_wall_after, replay_after, replay_on, report_on,
     run_after, run_on, seal_on, seal_with, serve_on,
@@ -44,6 +52,11 @@ fn main(rt: HostRuntime) -> Served {
     if !hold_streams(&rt) {
         return Served::with(unheld(&rt));
     }
+    // (They are held until this ends.)
+    let held = match hold_books::<Brand>(&rt, Blank::new(1)) {
+        Ok(held) => held,
+        Err(status) => return Served::with(status),
+    };
     let blanks = Blanks {
         policy: Blank::new(1),
         second: Blank::new(1),
@@ -63,7 +76,7 @@ fn main(rt: HostRuntime) -> Served {
         Brand,
         Brand,
     >(&rt, &rt, out, err, blanks);
-    match outcome {
+    let served = match outcome {
         Outcome::Ended(served) => served,
         Outcome::ToServe(paths) => {
             let system = System {
@@ -90,5 +103,7 @@ fn main(rt: HostRuntime) -> Served {
             };
             Served::with(seal_chain::<Brand, Brand, Brand>(rt.alloc(), system, &path, blanks))
         }
-    }
+    };
+    drop(held);
+    served
 }

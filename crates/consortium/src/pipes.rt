@@ -4,6 +4,7 @@
 //! They are looked at before the server begins, by name, and each once more when it was opened. No
 //! contract can say what a file system tells; `tests/live` tries it.
 
+use crate::attendance::Attendance;
 use program_commands::Unready;
 use std::alloc::{AllocError, Global};
 use std::fs::{File, Metadata};
@@ -14,8 +15,14 @@ use std::{fs, io};
 use wall_labels::ProcessId;
 use wall_policy::Policy;
 
-/// Others than the owner of a file and its group may read it, or write to it.
+// Others than the owner of a file and its group may read it, or write to it.
 const OPEN_TO_OTHERS: u32 = 0o006;
+
+// Others than its owner may.
+const OPEN_TO_ALL_BUT_OWNER: u32 = 0o066;
+
+// The name of the operator's pair, which no process can have.
+const OPERATOR: &str = "@operator";
 
 // By which Linux tells that no more files can be opened: by this program, by all.
 const TOO_MANY_FILES: i32 = 24;
@@ -71,19 +78,22 @@ impl Shut {
 #[derive(Drop)]
 pub(crate) struct Pipe {
     pub(crate) path: String,
+    // What its mode may not have.
+    barred: u32,
     user: u32,
     group: u32,
 }
 
-// Whether these are of one file.
-fn is_same(one: &Metadata, other: &Metadata) -> bool {
+/// Whether these are of one file.
+pub(crate) fn is_same(one: &Metadata, other: &Metadata) -> bool {
     one.dev() == other.dev() && one.ino() == other.ino()
 }
 
 impl Pipe {
-    fn at(path: String) -> Pipe {
+    fn at(path: String, barred: u32) -> Pipe {
         Pipe {
             path,
+            barred,
             user: 0,
             group: 0,
         }
@@ -98,7 +108,7 @@ impl Pipe {
         if !found.file_type().is_fifo() {
             return Some(Shut::Changed);
         }
-        if found.mode() & OPEN_TO_OTHERS != 0 {
+        if found.mode() & self.barred != 0 {
             return Some(Shut::OpenToOthers);
         }
         self.user = found.uid();
@@ -119,14 +129,14 @@ impl Pipe {
         if !found.file_type().is_fifo() || !is_same(&found, &named) || !is_kept {
             return Some(Shut::Changed);
         }
-        if found.mode() & OPEN_TO_OTHERS != 0 {
+        if found.mode() & self.barred != 0 {
             return Some(Shut::OpenToOthers);
         }
         None
     }
 }
 
-/// The two pipes of a process.
+/// The two pipes of a process, or of the operator.
 #[derive(Drop)]
 pub(crate) struct Pipes<'a> {
     /// The process.
@@ -135,6 +145,25 @@ pub(crate) struct Pipes<'a> {
     pub(crate) calls: Pipe,
     /// To which its replies are written.
     pub(crate) replies: Pipe,
+    /// Where the process stands. (Of the operator it says nothing.)
+    pub(crate) attendance: Attendance,
+}
+
+// The pair of this name.
+fn pair_at<'a>(
+    alloc: Global,
+    dir: &str,
+    name: &'a str,
+    barred: u32,
+) -> Result<Pipes<'a>, AllocError> {
+    let calls = format!(in alloc; "{dir}/{name}.calls")?;
+    let replies = format!(in alloc; "{dir}/{name}.replies")?;
+    Ok(Pipes {
+        name,
+        calls: Pipe::at(calls, barred),
+        replies: Pipe::at(replies, barred),
+        attendance: Attendance::new(),
+    })
 }
 
 /// The pipes of each process of the policy, in order: `DIR/NAME.calls` and `DIR/NAME.replies`.
@@ -149,15 +178,14 @@ pub(crate) fn pipes_in<'a>(
             unreachable!()
         };
         let name = policy.process_name(process);
-        let calls = format!(in alloc; "{dir}/{name}.calls")?;
-        let replies = format!(in alloc; "{dir}/{name}.replies")?;
-        all.push(Pipes {
-            name,
-            calls: Pipe::at(calls),
-            replies: Pipe::at(replies),
-        })?;
+        all.push(pair_at(alloc, dir, name, OPEN_TO_OTHERS)?)?;
     }
     Ok(all)
+}
+
+/// The pair of the operator: `DIR/@operator.calls` and `DIR/@operator.replies`.
+pub(crate) fn operator_pipes(alloc: Global, dir: &str) -> Result<Pipes<'static>, AllocError> {
+    pair_at(alloc, dir, OPERATOR, OPEN_TO_ALL_BUT_OWNER)
 }
 
 // How the server ends where it does not begin for this.
@@ -170,8 +198,14 @@ fn unready(name: &str, shut: Shut) -> Unready<'_> {
 }
 
 impl<'a> Pipes<'a> {
-    // Why nobody can be served at these pipes. That one is missing comes first.
-    fn fault<F: Files>(&mut self, files: &F) -> Option<Unready<'a>> {
+    /// Whether anything stands at one of the two paths.
+    pub(crate) fn are_there<F: Files>(&self, files: &F) -> bool {
+        fs::symlink_metadata(files, self.calls.path.as_str()).is_ok()
+            || fs::symlink_metadata(files, self.replies.path.as_str()).is_ok()
+    }
+
+    /// Why nobody can be served at these pipes. That one is missing comes first.
+    pub(crate) fn fault<F: Files>(&mut self, files: &F) -> Option<Unready<'a>> {
         let (calls, replies) = (self.calls.look(files), self.replies.look(files));
         match (calls, replies) {
             (Some(Shut::OpenToOthers), Some(shut)) => Some(unready(self.name, shut)),

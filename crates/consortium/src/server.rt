@@ -3,22 +3,23 @@
 //! What the sessions come to says the contract of `serve_on`; the pipes, and so this, have none.
 ghost use Rattle.program_line.specs.Kinds.{Opens};
 
-use crate::book_file::{BookFile, CountedBook, FileReceipt, Lasting, NewBook, new_book, take_away};
+use crate::book_file::{Lasting, NewBook, new_book, take_away};
 use crate::chain::{HeldChain, HeldFile, Unentered};
 use crate::desk::{desks_at, peers_at};
-use crate::ended::{Ended, let_go, status_of};
-use crate::events::{BookEvents, Event, EventLines, Events};
+use crate::ended::status_of;
+use crate::events::{BookLength, EventLines, Events};
 use crate::folder::Folder;
-use crate::loss::{Silent, TellsLoss};
-use crate::pipes::{Pipes, first_fault, pipes_in};
+use crate::operator::OperatorPair;
+use crate::orders::OrderLine;
+use crate::pipes::{Pipes, first_fault, operator_pipes, pipes_in};
+use crate::sessions::Sessions;
 use chain_runs::Next;
-use live_book::BookReceipt;
-use live_session::{Peer, ShowDesk};
-use program_commands::{Ending, end, refuse, serve_on};
+use program_commands::{Ending, end, refuse};
 use program_files::{Count, StreamSink};
 use program_line::{Chained, LivePaths, chained_policy, served_policy};
+use std::alloc::Global;
+use std::fs::File;
 use std::io::{Stderr, Stdout};
-use std::marker::Brand;
 use std::sync::Wait;
 use std::sync::ledger::{Blank, Ledger};
 use std::thread;
@@ -151,6 +152,10 @@ impl<'a, R: AllocGlobal + Threads + Wait + Sync> PipeServer<'a, R> {
         if let Some(unready) = first_fault(self.files, &mut all) {
             return refuse(err, unready);
         }
+        let operator = match self.operator_pipes(err) {
+            Ok(operator) => operator,
+            Err(status) => return status,
+        };
         if let Some(unready) = folder.used() {
             return refuse(err, unready);
         }
@@ -162,30 +167,48 @@ impl<'a, R: AllocGlobal + Threads + Wait + Sync> PipeServer<'a, R> {
         let Ok(events) = Events::new(alloc, all.len(), clock) else {
             return end(err, Ending::NoMemory);
         };
-        let Ok(lines) = EventLines::new(alloc, self.out) else {
-            return end(err, Ending::NoMemory);
+        self.serve_at(policy, &all, &folder, &operator, &events, run, err)
+    }
+
+    // The pipes of the operator, if there are any, and they are as they must be; or the status.
+    fn operator_pipes<E: Sink>(&self, err: &mut E) -> Result<Option<Pipes<'static>>, u8> {
+        let Ok(mut pipes) = operator_pipes(self.rt.alloc(), &self.paths.pipes) else {
+            return Err(end(err, Ending::NoMemory));
         };
-        self.serve_at(policy, &all, &folder, &events, lines, run, err)
+        if !pipes.are_there(self.files) {
+            return Ok(None);
+        }
+        match pipes.fault(self.files) {
+            Some(unready) => Err(refuse(err, unready)),
+            None => Ok(Some(pipes)),
+        }
     }
 
     // Makes the devices and the book, and serves, while another thread writes the events.
-    fn serve_at<'n, E: Sink>(
+    fn serve_at<'s, 'n, E: Sink>(
         &self,
-        policy: &Policy,
-        all: &[Pipes<'n>],
+        policy: &'s Policy,
+        all: &'s [Pipes<'n>],
         folder: &Folder,
-        events: &Events<'n>,
-        lines: EventLines<Stdout>,
+        operator: &Option<Pipes<'static>>,
+        events: &'s Events<'n>,
         mut run: Option<NextRun>,
         err: &mut E,
     ) -> u8 {
         let rt = self.rt;
         let alloc = rt.alloc();
+        let Ok(lines) = EventLines::new(alloc, self.out) else {
+            return end(err, Ending::NoMemory);
+        };
         let Ok(desks) = desks_at(rt, alloc, self.files, all, events) else {
             return end(err, Ending::NoMemory);
         };
         let Ok(peers) = peers_at(alloc, &desks) else {
             return end(err, Ending::NoMemory);
+        };
+        let pair = match open_operator(alloc, self.files, operator, err) {
+            Ok(pair) => pair,
+            Err(status) => return status,
         };
         let book = match self.book(err) {
             Ok(book) => book,
@@ -202,10 +225,17 @@ impl<'a, R: AllocGlobal + Threads + Wait + Sync> PipeServer<'a, R> {
                 return unbegun(err, unentered);
             }
         }
+        // (The operator's answers end when all is done.)
+        let answers = end_of_answers(&pair);
+        let length = BookLength::new();
         let (is_told, ended) = thread::join(
             rt,
             || events.write_to(rt, lines),
-            || self.serve_while_told(policy, peers, book, events, err),
+            || {
+                let most = self.paths.calls;
+                let sessions = Sessions::at(rt, self.files, policy, most, all, events, &length);
+                sessions.serve(peers, book, pair, err)
+            },
         );
         if ended.sessions != policy.processes() as usize {
             // (The book of a run that a chain has stays: without it nothing could go on.)
@@ -215,7 +245,9 @@ impl<'a, R: AllocGlobal + Threads + Wait + Sync> PipeServer<'a, R> {
             return ended.status();
         }
         let entered = self.end(policy, &mut run);
-        status_of(rt, ended, entered, events, is_told, err)
+        let status = status_of(rt, ended, entered, events, is_told, err);
+        drop(answers);
+        status
     }
 
     // Writes the line of a run that begins on a chain.
@@ -264,34 +296,32 @@ impl<'a, R: AllocGlobal + Threads + Wait + Sync> PipeServer<'a, R> {
             None => Ok(None),
         }
     }
+}
 
-    // Serves, between the first event and the last.
-    fn serve_while_told<S, O, E: Sink>(
-        &self,
-        policy: &Policy,
-        peers: Vec<Peer<S, O>>,
-        book: Option<NewBook>,
-        events: &Events,
-        err: &mut E,
-    ) -> Ended
-    where
-        S: ShowDesk<O, Option<BookReceipt<FileReceipt>>> + Send + Drop,
-        O: Sink + Send + Drop,
-    {
-        let rt = self.rt;
-        let most = self.paths.calls;
-        events.tell(rt, Event::Serving(policy.processes()));
-        let ended = match book {
-            Some(book) => {
-                let blank = Blank::new(1);
-                let told = BookEvents { rt, events };
-                let book = CountedBook { book, blank, told };
-                serve_keeping::<_, _, _, _, Brand, _>(rt, policy, peers, most, err, book)
-            }
-            None => serve_bookless(rt, policy, peers, most, err),
-        };
-        events.end(rt, ended.sessions == policy.processes() as usize);
-        ended
+// The pair of the operator, open, if there is one; or the status.
+fn open_operator<E: Sink>(
+    alloc: Global,
+    files: &HostRuntime,
+    pipes: &Option<Pipes<'static>>,
+    err: &mut E,
+) -> Result<Option<OperatorPair>, u8> {
+    let Some(pipes) = pipes else {
+        return Ok(None);
+    };
+    let Ok(line) = OrderLine::new(alloc) else {
+        return Err(end(err, Ending::NoMemory));
+    };
+    match OperatorPair::open(files, pipes, line) {
+        Ok(pair) => Ok(Some(pair)),
+        Err(unready) => Err(refuse(err, unready)),
+    }
+}
+
+// One end more of the operator's answers, so that they end no earlier than this is let go.
+fn end_of_answers(pair: &Option<OperatorPair>) -> Option<File> {
+    match pair {
+        Some(pair) => pair.answers.try_clone().ok(),
+        None => None,
     }
 }
 
@@ -301,47 +331,4 @@ fn unbegun<E: Sink>(err: &mut E, unentered: Unentered) -> u8 {
         Unentered::For(ending) => end(err, ending),
         Unentered::NotWhole => end(err, Ending::WriteFault),
     }
-}
-
-// Serves, and writes the book to this file.
-fn serve_keeping<R, S, O, E: Sink, B: Ledger + Send, T: TellsLoss + Send + Drop>(
-    rt: &R,
-    policy: &Policy,
-    peers: Vec<Peer<S, O>>,
-    most: Option<u64>,
-    err: &mut E,
-    book: CountedBook<T>,
-) -> Ended
-where
-    R: AllocGlobal + Threads + Wait + Sync,
-    S: ShowDesk<O, Option<BookReceipt<FileReceipt>>> + Send + Drop,
-    O: Sink + Send + Drop,
-    requires { Opens book.blank B.name B.parts }
-{
-    let book = BookFile::<B, T>::new(book);
-    let_go(serve_on(rt, rt.alloc(), policy, peers, most, err, Some(book)))
-}
-
-// Serves, and keeps no book.
-fn serve_bookless<R, S, O, E: Sink>(
-    rt: &R,
-    policy: &Policy,
-    peers: Vec<Peer<S, O>>,
-    most: Option<u64>,
-    err: &mut E,
-) -> Ended
-where
-    R: AllocGlobal + Threads + Wait + Sync,
-    S: ShowDesk<O, Option<BookReceipt<FileReceipt>>> + Send + Drop,
-    O: Sink + Send + Drop,
-{
-    let_go(serve_on::<_, _, _, _, BookFile<Brand, Silent>>(
-        rt,
-        rt.alloc(),
-        policy,
-        peers,
-        most,
-        err,
-        None,
-    ))
 }

@@ -3,7 +3,7 @@ ghost use Rattle.std.specs.Prelude.{◌≡◌, option_map};
 ghost use Rattle.program_words.specs.Usage.{command_usage, usage_of};
 
 /// The program's name and version: the date of the newest changes in `CHANGELOG.md`.
-pub const VERSION: &str = "consortium 2026-11-30\n";
+pub const VERSION: &str = "consortium 2026-12-01\n";
 
 const PROGRAM: &str = "\
 usage: consortium COMMAND WORDS
@@ -61,6 +61,8 @@ status  0  all lines were answered, and the book was written if it was asked for
         2  an earlier book is no book, or not sound          after PATH: ..
         2  CHAIN is no chain, or a run of it does not stand  chain: ..
         2  a line of the script is no call                   script: line N: NAME
+        3  an earlier book or FILE is in use                 book in use: PATH
+        3  FILE is of the chain                              book exists: FILE
         3  a file could not be read, or is too long          read fault
         3  a reply or the book could not be written          write fault
         4  memory was refused                                out of memory
@@ -83,6 +85,8 @@ status  0  all lines were answered, and the book was written if it was asked for
         2  an earlier book is no book, or not sound          after PATH: ..
         2  CHAIN is no chain, or a run of it does not stand  chain: ..
         2  a line of the script is no call                   script: line N: NAME
+        3  an earlier book or FILE is in use                 book in use: PATH
+        3  FILE is of the chain                              book exists: FILE
         3  a file could not be read, or is too long          read fault
         3  the replies or the book could not be written      write fault
         4  memory was refused                                out of memory
@@ -109,6 +113,7 @@ status  0  the book is sound                                 sound N, on standar
         2  the file is no chain                              chain: line N: .., chain: cut
         2  a run of the chain does not stand                 chain: run N: ..
         2  its last run has not ended                        chain: run N has not ended
+        3  a server writes the book or an earlier one        book in use: PATH
         3  a file could not be read, or is too long          read fault
         3  the line could not be written                     write fault
         4  memory was refused                                out of memory
@@ -125,7 +130,8 @@ until all have left. With --book the audit book is written to FILE, a new file, 
 number of times, the oldest first, it goes on after the books of earlier runs; with --chain it is
 the next run of the chain file CHAIN, which gets a line when it begins and one when it has ended.
 With --calls a session that has made N calls, from 1 to 2^62, is answered `exhausted` at the next,
-and ends. With --times the line of each event begins with its time, in UTC.
+and ends. With --times the line of each event begins with its time, in UTC. The operator's own pair
+of pipes in DIR, if there is one, takes `status`, `dismiss NAME` and `end`.
 
 status  0  all have left, and the book was written if it was asked for
         1  the policy is refused                             policy: NAME
@@ -137,6 +143,7 @@ status  0  all have left, and the book was written if it was asked for
         3  another server is at DIR or CHAIN                 in use: DIR, in use: CHAIN
         3  the pipes have served a run already               pipes used: DIR
         3  there is a file at FILE already                   book exists: FILE
+        3  another server writes an earlier book             book in use: PATH
         3  a file could not be read, or is too long          read fault
         3  the events or the book could not be written       write fault
         4  memory was refused                                out of memory
@@ -161,6 +168,7 @@ status  0  the whole book stands in OUT                      sealed N, on standa
         2  a finished line is not in its form                book: line N
         2  no sound book begins with its entries             unsound at entry N, there too
         2  CHAIN is no chain, or a run of it does not stand  chain: ..
+        3  a server writes the book or an earlier one        book in use: PATH
         3  a file could not be read, or is too long          read fault
         3  OUT is there already, or could not be written     write fault
         3  a server or another seal is at CHAIN              in use: CHAIN
@@ -182,6 +190,7 @@ status  0  all of it reads, and the book is sound
         2  an earlier book is no book, or not sound          after PATH: ..
         2  the book is unsound                               PATH:LINE: .., on standard output
         2  the file is no book                               book: line N, book: cut
+        3  a server writes the book or an earlier one        book in use: PATH
         3  a file could not be read, or is too long          cannot read PATH: ..
         3  a line could not be written                       write fault
         4  memory was refused                                out of memory
@@ -207,6 +216,8 @@ status  0  the book is sound, and the report was written, and the page if it was
         2  CHAIN is no chain, or a run of it does not stand  chain: ..
         2  a run is under way, or there is none              chain: ..
         3  CHAIN could not be read, or is too long           read fault
+        3  a book or FILE is in use                          book in use: PATH
+        3  FILE is of the chain                              book exists: FILE
         3  a file could not be read, or is too long          cannot read PATH: ..
         3  the report or the page could not be written       write fault
         4  memory was refused                                out of memory

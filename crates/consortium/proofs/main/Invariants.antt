@@ -1,5 +1,8 @@
 use Rattle.consortium.proofs.main.Given as goal
 
+abbrev pub ghosts-hold_books : goal.ghosts-hold_books
+ghosts-hold_books g a = record { name = a.told.name; parts = a.told.parts }
+
 abbrev pub ghosts-serve-P-Ledger : goal.ghosts-serve-P-Ledger
 ghosts-serve-P-Ledger g a = record { name = a.blanks.policy.name; parts = a.blanks.policy.parts }
 
