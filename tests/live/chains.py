@@ -94,9 +94,9 @@ class Years:
         want((house.pipes / "unused").exists(), True, f"the pipes behind {what}")
 
 
-def gives_to_the_consultant(house, sender, label, stays=False):
+def gives_to_the_consultant(house, sender, label, stays=False, meanwhile=None):
     """n0, the third process, is to be given a number of a bank, on a communicator of the two. Who
-    stays does not close its pipes."""
+    stays does not close its pipes: as soon as all have, the run ends."""
     raws = [Raw(house, name) for name in house.names]
     for raw in raws:
         want(raw.ask(f"post 0 create {sender},2"), "posted 0", "the post of a constructor")
@@ -104,6 +104,8 @@ def gives_to_the_consultant(house, sender, label, stays=False):
     want(raws[sender].ask(f"post 1 bcast 0 int32 1 as {label} 7"), "posted 1", "a post")
     want(raws[2].ask("post 1 bcast 0 int32 1"), "posted 1", "n0's post")
     told = raws[2].ask("take 1")
+    if meanwhile is not None:
+        meanwhile()
     if not stays:
         for raw in raws:
             raw.close()
@@ -113,8 +115,8 @@ def gives_to_the_consultant(house, sender, label, stays=False):
 def a_day(years, sender, label, told, **policy):
     """A whole run on which a bank gives the consultant a number. Gives the server that was."""
     house = years.house(**policy).start()
-    want(gives_to_the_consultant(house, sender, label), told, "what the consultant is told")
-    years.begun(house)
+    found = gives_to_the_consultant(house, sender, label, meanwhile=lambda: years.begun(house))
+    want(found, told, "what the consultant is told")
     house.end()
     years.ended(house)
     return house

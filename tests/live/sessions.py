@@ -424,7 +424,7 @@ def talk_in_the_shell(given):
     shutil.rmtree(house.pipes)
     made = house.make_pipes()
     want((made.returncode, made.stdout, made.stderr), (0, "", ""), "make_pipes")
-    names = [f"{name}.{end}" for name in house.names for end in ("calls", "replies")]
+    names = [f"{name}.{end}" for name in (*house.names, "@operator") for end in ("calls", "replies")]
     want(sorted(os.listdir(house.pipes)), sorted([*names, "unused"]), "the pipes")
     house.start()
     firms = [("a0", "alpha", 120), ("b0", "beta", 80), ("u0", "umbra", 300)]

@@ -88,13 +88,13 @@ void reply_read(const char *text, size_t length, struct reply *reply) {
         [NEW_COMM] = "comm",     [NULL_COMM] = "null",      [NO_ROOM] = "noroom",
         [DENIED] = "denied",     [INFO] = "info",           [REFUSED] = "refused",
         [BAD] = "bad",           [LEFT] = "left",           [EXHAUSTED] = "exhausted",
-        [UNBOOKED] = "unbooked", [DISMISSED] = "dismissed", [ENDED] = "ended",
+        [UNBOOKED] = "unbooked", [DISMISSED] = "dismissed", [RUN_ENDED] = "ended",
         [DELIVERED] = "delivered", [MALFORMED] = "",
     };
     struct words line = {text, text + length};
     struct words first = next_word(&line);
     memset(reply, 0, sizeof *reply);
-    for (enum answer answer = POSTED; answer <= ENDED; answer++) {
+    for (enum answer answer = POSTED; answer <= RUN_ENDED; answer++) {
         if (is_word(first, WORDS[answer])) {
             reply->answer = answer;
         }

@@ -177,16 +177,14 @@ fn is_of_run(files: &HostRuntime, begun: &Begun, found: &Metadata) -> bool {
     is_file_at(files, &begun.policy, found) || is_file_at(files, &begun.book, found)
 }
 
+// (Behind a run that is under way nothing is done: whoever reads the chain says so.)
 fn is_of_runs(files: &HostRuntime, chain: &ChainFile, found: &Metadata) -> bool {
-    if let Some(begun) = chain.under_way() {
-        if is_of_run(files, begun, found) {
-            return true;
-        }
-    }
-    chain
-        .ended()
-        .iter()
-        .any(|run| is_of_run(files, &run.begun, found))
+    let is_whole = chain.under_way().is_none();
+    is_whole
+        && chain
+            .ended()
+            .iter()
+            .any(|run| is_of_run(files, &run.begun, found))
 }
 
 // Whether this file is the chain's own, or a policy or a book of one of its runs. (Why there is no
