@@ -203,7 +203,7 @@ def dismissed_in_a_wait(given):
     for raw in raws[:2]:
         want(raw.ask("post 0 barrier"), "posted 0", "a post")
     raws[0].send(b"wait 0\n")
-    time.sleep(0.2)
+    time.sleep(0.5)
     want(asked(house, "dismiss p0"), ["done"], "a dismissal")
     want(asked(house, "dismiss p0"), ["done"], "it holds already")
     want(asked(house, "status")[0], "p0 here after 1 calls: dismissed", "who is to end")
