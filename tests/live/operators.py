@@ -536,7 +536,21 @@ def ends_as_another_user(given):
     want(pathlib.Path(house.book).read_text().splitlines()[-1], "end 0", "the book")
 
 
+def threads_that_are_refused(given):
+    """Where the thread of the events, of the operator or of a session is refused, the server ends."""
+    if os.geteuid():
+        return
+    import resource
+    for number in (1, 2, 3):
+        house = with_pair(House(given.program, neutral(2)))
+        of_nobody(house)
+        server = started(house, as_nobody((resource.RLIMIT_NPROC, number)))
+        out, err = server.communicate(timeout=60)
+        want((server.returncode, out, err), (4, b"serving 2 processes\n", b"no thread\n"),
+             f"with {number} threads at most")
+
+
 TESTS = [each_line, without_a_book, ends_for_all, dismissed_in_a_wait, dismissed_before_it_came,
          who_does_not_read, a_run_that_never_reads, hostile_operators, pairs_that_are_wrong,
          members_cannot_operate, chains_that_are_ended, by_the_script, as_python_sees_it,
-         ends_as_another_user]
+         ends_as_another_user, threads_that_are_refused]
