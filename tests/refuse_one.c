@@ -1,5 +1,6 @@
 /* Refuses one allocation of the program that it is loaded into: of the number that REFUSED_GROWTH
- * says, from 1. A byte to the file REFUSED_GROWTH_COUNT tells that it came. */
+ * says, from 1. A byte to the file REFUSED_GROWTH_COUNT tells that it came. Each allocation, refused
+ * or not, is a byte to the file COUNTED_GROWTHS, where that is given. */
 #define _GNU_SOURCE
 #include <errno.h>
 #include <stdatomic.h>
@@ -14,17 +15,20 @@ extern void *__libc_memalign(size_t, size_t);
 
 static atomic_long calls;
 static long refused;
-static int counted = -1;
+static int counted = -1, each = -1;
 
 __attribute__((constructor)) static void begin(void) {
     const char *n = getenv("REFUSED_GROWTH"), *fd = getenv("REFUSED_GROWTH_COUNT");
+    const char *all = getenv("COUNTED_GROWTHS");
     counted = fd ? atoi(fd) : -1;
+    each = all ? atoi(all) : -1;
     atomic_store(&calls, 0);
     refused = n ? atol(n) : 0;
 }
 
 /* Whether this is the call to be refused. A byte tells that it came. */
 static int is_refused(void) {
+    if (each >= 0 && write(each, "x", 1) != 1) abort();
     if (!refused || atomic_fetch_add(&calls, 1) + 1 != refused) return 0;
     if (counted >= 0 && write(counted, "x", 1) != 1) abort();
     errno = ENOMEM;
