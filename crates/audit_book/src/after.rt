@@ -57,7 +57,7 @@ fn pairs_after(
     let audit = audit_whole(alloc, policy, book)?;
     match held_at(alloc, audit.post_state()) {
         Ok(pairs) => Ok(pairs),
-        Err(_) => Err(BookFault::NoMemory),
+        Err(refused) => Err(BookFault::from(refused)),
     }
 }
 

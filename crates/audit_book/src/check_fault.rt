@@ -1,6 +1,7 @@
 //! Why a book is refused.
 
 use thiserror::Error;
+use wall_labels::NoMemory;
 
 /// Why a book is refused.
 #[derive(Clone, Copy, Debug, PartialEq, Eq, Error)]
@@ -11,4 +12,15 @@ pub enum BookFault {
     BadEntry(u64),
     #[error("out of memory")]
     NoMemory,
+}
+
+impl From<NoMemory> for BookFault {
+    ghost use Rattle.std.specs.Prelude.{◌≡◌};
+    ghost use Rattle.audit_book.specs.declared.check_fault.BookFault.TheVariants.{NoMemory};
+
+    ghost from_gives = { λ _ e. e ≡ NoMemory };
+
+    fn from(_refused: NoMemory) -> BookFault {
+        BookFault::NoMemory
+    }
 }

@@ -13,7 +13,7 @@ ghost use Rattle.audit_book.specs.Checks.{HasEntered, HasCounted, StopsAtPost};
 use crate::due::Due;
 use coll_routes::Stated;
 use run_model::Refusal;
-use run_state::{Entered, Next, PostState, Seat, Terms};
+use run_state::{Entered, Next, PostState, Seat, Terms, Unentered};
 use std::alloc::Global;
 use wall_labels::{Label, NoMemory, ProcessId};
 use wall_policy::Policy;
@@ -24,6 +24,17 @@ pub(crate) enum Stopped {
     /// No sound book goes on like this.
     Wrong,
     NoMemory,
+}
+
+impl From<NoMemory> for Stopped {
+    ghost use Rattle.std.specs.Prelude.{◌≡◌};
+    ghost use Rattle.audit_book.specs.declared.count.Stopped.TheVariants.{NoMemory};
+
+    ghost from_gives = { λ _ e. e ≡ NoMemory };
+
+    fn from(_refused: NoMemory) -> Stopped {
+        Stopped::NoMemory
+    }
 }
 
 /// A post, as it stands in a book.
@@ -58,12 +69,13 @@ pub(crate) fn count(
             if stated.barred == may_pass {
                 return Err(Stopped::Wrong);
             }
-            let Ok(copy) = stated.copy(alloc) else {
-                return Err(Stopped::NoMemory);
+            let copy = match stated.copy(alloc) {
+                Ok(copy) => copy,
+                Err(refused) => return Err(Stopped::from(refused)),
             };
             match enter(policy, post_state, seat, copy) {
                 Ok(entered) => Ok(entered),
-                Err(_) => Err(Stopped::NoMemory),
+                Err(refused) => Err(Stopped::from(refused)),
             }
         }
     }
@@ -109,7 +121,15 @@ fn enter(
     }
     match post_state.enter(policy, seat, stated, ()) {
         Ok(entered) => Ok(entered),
-        Err(_) => Err(NoMemory),
+        Err(unentered) => {
+            let Unentered {
+                refused,
+                stated,
+                part: _,
+            } = unentered;
+            drop(stated);
+            Err(refused)
+        }
     }
 }
 

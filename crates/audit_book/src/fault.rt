@@ -1,6 +1,7 @@
 //! Why a book is not read, or not written.
 use std::alloc::AllocError;
 use thiserror::Error;
+use wall_labels::NoMemory;
 
 /// Why a text is no book. (Own format.)
 ///
@@ -19,6 +20,17 @@ pub enum ReadFault {
     NoMemory,
 }
 
+impl From<NoMemory> for ReadFault {
+    ghost use Rattle.std.specs.Prelude.{◌≡◌};
+    ghost use Rattle.audit_book.specs.declared.fault.ReadFault.TheVariants.{NoMemory};
+
+    ghost from_gives = { λ _ e. e ≡ NoMemory };
+
+    fn from(_refused: NoMemory) -> ReadFault {
+        ReadFault::NoMemory
+    }
+}
+
 /// Why a book was not written whole. A prefix of its text is written.
 #[derive(Clone, Copy, Debug, PartialEq, Eq, Error)]
 pub enum WriteFault {
@@ -30,13 +42,24 @@ pub enum WriteFault {
     NoMemory,
 }
 
+impl From<NoMemory> for WriteFault {
+    ghost use Rattle.std.specs.Prelude.{◌≡◌};
+    ghost use Rattle.audit_book.specs.declared.fault.WriteFault.TheVariants.{NoMemory};
+
+    ghost from_gives = { λ _ e. e ≡ NoMemory };
+
+    fn from(_refused: NoMemory) -> WriteFault {
+        WriteFault::NoMemory
+    }
+}
+
 impl From<AllocError> for WriteFault {
     ghost use Rattle.std.specs.Prelude.{◌≡◌};
     ghost use Rattle.audit_book.specs.declared.fault.WriteFault.TheVariants.{NoMemory};
 
     ghost from_gives = { λ _ e. e ≡ NoMemory };
 
-    fn from(_e: AllocError) -> WriteFault {
-        WriteFault::NoMemory
+    fn from(refused: AllocError) -> WriteFault {
+        WriteFault::from(NoMemory::from(refused))
     }
 }

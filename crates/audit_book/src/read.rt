@@ -49,7 +49,7 @@ impl Kept {
         }
         match self.book.reserve(1) {
             Ok(()) => self.book.push(entry),
-            Err(_) => self.memory.run_out(),
+            Err(refused) => self.memory.run_out(refused),
         }
     }
 }
@@ -150,8 +150,6 @@ pub fn read_book(alloc: Global, policy: &Policy, text: &[u8]) -> Result<Book, Re
     let mut kept = Kept::new(alloc);
     take_lines(policy, first, &mut lines, &mut kept)?;
     let Kept { memory, book } = kept;
-    if memory.ran_out() {
-        return Err(ReadFault::NoMemory);
-    }
+    memory.end()?;
     Ok(book)
 }

@@ -68,8 +68,9 @@ pub fn watch_entries<W: Watch>(
     ensures follows { OnOk result (W.follows policy.now book.now.list watch.new) }
     ensures fault { IfErr result (IsFaultWithin policy.now book.now.list) }
 {
-    let Ok(mut audit) = Audit::begin(alloc, policy) else {
-        return Err(BookFault::NoMemory);
+    let mut audit = match Audit::begin(alloc, policy) {
+        Ok(audit) => audit,
+        Err(refused) => return Err(BookFault::from(refused)),
     };
     for at in 0..book.len() {
         let entry = book.get(at);
@@ -81,7 +82,7 @@ pub fn watch_entries<W: Watch>(
         drop(step);
         match seen {
             Ok(()) => {}
-            Err(_) => return Err(BookFault::NoMemory),
+            Err(refused) => return Err(BookFault::from(refused)),
         }
     }
     Ok(audit)

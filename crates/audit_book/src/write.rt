@@ -179,7 +179,7 @@ fn write_entries<W: Sink>(
         entry_is_spelled(policy, entry);
         match put_entry(policy, entry, text) {
             Ok(()) => {}
-            Err(_) => return Err(WriteFault::NoMemory),
+            Err(refused) => return Err(WriteFault::from(refused)),
         }
         match send_long(text, sink) {
             Ok(()) => {}

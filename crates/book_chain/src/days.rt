@@ -28,9 +28,9 @@ pub fn next_policy(alloc: Global, after: &Policy, file: &Policy) -> Result<Polic
     };
     match Vec::from_slice(alloc, after.held()) {
         Ok(held) => Ok(grown.after(held)),
-        Err(_) => {
+        Err(refused) => {
             drop(grown);
-            Err(GrowthFault::NoMemory)
+            Err(GrowthFault::from(refused))
         }
     }
 }

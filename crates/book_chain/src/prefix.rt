@@ -12,7 +12,7 @@ use audit_book::{BookFault, after_book};
 use run_model::{Entry, Outcome};
 use run_state::Book;
 use std::alloc::Global;
-use wall_labels::{DatasetId, ProcessId};
+use wall_labels::{DatasetId, NoMemory, ProcessId};
 use wall_policy::Policy;
 
 /// The number of processes under which a book is read, and what each of them held at its end.
@@ -66,14 +66,15 @@ fn held_under(
     let Some(last) = ProcessId::new(number - 1) else {
         unreachable!();
     };
-    let Ok(prefix) = policy.up_to(alloc, last) else {
-        return Err(BookFault::NoMemory);
+    let prefix = match policy.up_to(alloc, last) {
+        Ok(prefix) => prefix,
+        Err(refused) => return Err(BookFault::from(refused)),
     };
     let after = after_book(alloc, prefix, book)?;
     let _ = after.processes();
     match Vec::from_slice(alloc, after.held()) {
         Ok(pairs) => Ok(pairs),
-        Err(_) => Err(BookFault::NoMemory),
+        Err(refused) => Err(BookFault::from(NoMemory::from(refused))),
     }
 }
 

@@ -142,7 +142,7 @@ pub fn owed_at(alloc: Global, policy: &Policy, book: &Book, number: u64) -> Resu
     let prefix = prefix(alloc, book, (number - 1) as usize)?;
     match watch_entries(alloc, policy, &prefix, &mut Unwatched) {
         Ok(audit) => Ok(owed_behind(policy, book, number, &audit)),
-        Err(BookFault::NoMemory) => Err(NoMemory),
+        Err(BookFault::NoMemory) => Err(NoMemory::of_fault()),
         Err(BookFault::BadEntry(_)) => unreachable!(),
     }
 }

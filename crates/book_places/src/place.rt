@@ -45,7 +45,7 @@ fn found_of(alloc: Global, policy: &Policy, book: &Book) -> Result<Found, NoMemo
         Ok(()) => Ok(Found::Sound {
             entries: book.len() as u64,
         }),
-        Err(BookFault::NoMemory) => Err(NoMemory),
+        Err(BookFault::NoMemory) => Err(NoMemory::of_fault()),
         Err(BookFault::BadEntry(number)) => {
             let _ = book.len();
             let owed = owed_at(alloc, policy, book, number)?;
@@ -74,7 +74,7 @@ pub fn found_in(alloc: Global, policy: &Policy, text: &[u8]) -> Result<Found, No
             drop(book);
             found
         }
-        Err(ReadFault::NoMemory) => Err(NoMemory),
+        Err(ReadFault::NoMemory) => Err(NoMemory::of_fault()),
         Err(ReadFault::Cut) => Ok(Found::Cut),
         Err(ReadFault::BadLine(number)) => {
             let due = due_at(policy, text, number);

@@ -107,8 +107,9 @@ fn bars_of(alloc: Global, policy: &Policy, book: &Book) -> Result<Vec<Bar>, NoMe
     ensures { IfOk result (λ bars. AreBars policy.now book.now.list (length book.now.list)
         bars.items) }
 {
-    let Ok(mut post_state) = PostState::open(alloc, policy) else {
-        return Err(NoMemory);
+    let mut post_state = match PostState::open(alloc, policy) {
+        Ok(post_state) => post_state,
+        Err(refused) => return Err(refused),
     };
     let bars = bars_from(alloc, policy, &mut post_state, book);
     drop(post_state);
@@ -131,6 +132,6 @@ pub fn barred_posts(alloc: Global, policy: &Policy, book: &Book) -> Result<Vec<B
     check_book(alloc, policy, book)?;
     match bars_of(alloc, policy, book) {
         Ok(bars) => Ok(bars),
-        Err(_) => Err(BookFault::NoMemory),
+        Err(refused) => Err(BookFault::from(refused)),
     }
 }

@@ -104,8 +104,9 @@ fn follow_sanitised(
     let Some(posting) = place.posting() else {
         return Ok(());
     };
-    let Ok(entered) = enter(*those.allocator(), place, post_state, &posting) else {
-        return Err(NoMemory);
+    let entered = match enter(*those.allocator(), place, post_state, &posting) {
+        Ok(entered) => entered,
+        Err(refused) => return Err(refused),
     };
     let added = add_sanitised(place, those, &entered, &posting);
     drop(entered);
@@ -137,8 +138,9 @@ fn sanitised_of(alloc: Global, policy: &Policy, book: &Book) -> Result<Vec<Sanit
     ensures { IfOk result (λ those. AreSanitised policy.now book.now.list (length book.now.list)
         those.items) }
 {
-    let Ok(mut post_state) = PostState::open(alloc, policy) else {
-        return Err(NoMemory);
+    let mut post_state = match PostState::open(alloc, policy) {
+        Ok(post_state) => post_state,
+        Err(refused) => return Err(refused),
     };
     let those = sanitised_from(alloc, policy, &mut post_state, book);
     drop(post_state);
@@ -166,6 +168,6 @@ pub fn sanitised_results(
     check_book(alloc, policy, book)?;
     match sanitised_of(alloc, policy, book) {
         Ok(those) => Ok(those),
-        Err(_) => Err(BookFault::NoMemory),
+        Err(refused) => Err(BookFault::from(refused)),
     }
 }

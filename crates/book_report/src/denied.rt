@@ -104,8 +104,9 @@ fn follow_denial(
     let Some(posting) = place.posting() else {
         return Ok(());
     };
-    let Ok(entered) = enter(*denials.allocator(), place, post_state, &posting) else {
-        return Err(NoMemory);
+    let entered = match enter(*denials.allocator(), place, post_state, &posting) {
+        Ok(entered) => entered,
+        Err(refused) => return Err(refused),
     };
     let added = add_denied(place, post_state, denials, &entered, posting.comm);
     drop(entered);
@@ -137,8 +138,9 @@ fn denials_of(alloc: Global, policy: &Policy, book: &Book) -> Result<Vec<Denial>
     ensures { IfOk result (λ denials. AreDenials policy.now book.now.list (length book.now.list)
         denials.items) }
 {
-    let Ok(mut post_state) = PostState::open(alloc, policy) else {
-        return Err(NoMemory);
+    let mut post_state = match PostState::open(alloc, policy) {
+        Ok(post_state) => post_state,
+        Err(refused) => return Err(refused),
     };
     let denials = denials_from(alloc, policy, &mut post_state, book);
     drop(post_state);
@@ -162,6 +164,6 @@ pub fn denials(alloc: Global, policy: &Policy, book: &Book) -> Result<Vec<Denial
     check_book(alloc, policy, book)?;
     match denials_of(alloc, policy, book) {
         Ok(denials) => Ok(denials),
-        Err(_) => Err(BookFault::NoMemory),
+        Err(refused) => Err(BookFault::from(refused)),
     }
 }

@@ -5,7 +5,7 @@ ghost use Rattle.book_report.specs.Places.{IsPlace, IsHere, StandsBefore, Stands
 ghost use Rattle.book_report.specs.Walk.{IsTold};
 
 use crate::place::{Place, Posting};
-use run_state::{Entered, PostState, Terms};
+use run_state::{Entered, PostState, Terms, Unentered};
 use std::alloc::Global;
 use wall_labels::NoMemory;
 
@@ -30,7 +30,15 @@ pub(crate) fn enter(
         Err(_) => unreachable!(),
         Ok(seat) => match post_state.enter(place.policy, seat, stated, ()) {
             Ok(entered) => Ok(entered),
-            Err(_) => Err(NoMemory),
+            Err(unentered) => {
+                let Unentered {
+                    refused,
+                    stated,
+                    part: _,
+                } = unentered;
+                drop(stated);
+                Err(refused)
+            }
         },
     }
 }
@@ -47,8 +55,9 @@ pub(crate) fn pass_on(
     requires stands { StandsBefore place.now post_state.old }
     ensures { OnOk result (StandsBehind place.now post_state.new) }
 {
-    let Ok(entered) = enter(alloc, place, post_state, posting) else {
-        return Err(NoMemory);
+    let entered = match enter(alloc, place, post_state, posting) {
+        Ok(entered) => entered,
+        Err(refused) => return Err(refused),
     };
     drop(entered);
     Ok(())

@@ -52,14 +52,15 @@ pub fn state_at_last(alloc: Global, policy: &Policy, book: &Book) -> Result<Post
     ensures { IfOk result (λ post_state.
         Stands policy.now post_state (posts_to book.now.list (length book.now.list))) }
 {
-    let Ok(mut post_state) = PostState::open(alloc, policy) else {
-        return Err(NoMemory);
+    let mut post_state = match PostState::open(alloc, policy) {
+        Ok(post_state) => post_state,
+        Err(refused) => return Err(refused),
     };
     match follow_all(alloc, policy, &mut post_state, book) {
         Ok(()) => Ok(post_state),
-        Err(_) => {
+        Err(refused) => {
             drop(post_state);
-            Err(NoMemory)
+            Err(refused)
         }
     }
 }

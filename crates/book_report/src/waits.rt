@@ -165,8 +165,9 @@ pub fn waiting_members(alloc: Global, policy: &Policy, book: &Book) -> Result<Ve
     ensures fault { IfErr result (IsFaultOf policy.now book.now.list) }
 {
     check_book(alloc, policy, book)?;
-    let Ok(post_state) = state_at_last(alloc, policy, book) else {
-        return Err(BookFault::NoMemory);
+    let post_state = match state_at_last(alloc, policy, book) {
+        Ok(post_state) => post_state,
+        Err(refused) => return Err(BookFault::from(refused)),
     };
     let end = AtEnd {
         policy,
@@ -177,6 +178,6 @@ pub fn waiting_members(alloc: Global, policy: &Policy, book: &Book) -> Result<Ve
     drop(post_state);
     match waits {
         Ok(waits) => Ok(waits),
-        Err(_) => Err(BookFault::NoMemory),
+        Err(refused) => Err(BookFault::from(refused)),
     }
 }

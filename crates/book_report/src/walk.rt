@@ -78,8 +78,9 @@ fn follow(
         return Ok(());
     };
     known.add_label(posting.process, posting.stated, place.entry())?;
-    let Ok(entered) = enter(*known.rows.allocator(), place, post_state, &posting) else {
-        return Err(NoMemory);
+    let entered = match enter(*known.rows.allocator(), place, post_state, &posting) {
+        Ok(entered) => entered,
+        Err(refused) => return Err(refused),
     };
     let added = add_filled(place, known, &entered, &posting);
     drop(entered);
@@ -129,13 +130,15 @@ fn rows_of(alloc: Global, policy: &Policy, book: &Book) -> Result<Vec<Row>, NoMe
         HasRow rows.items p d) }
     ensures once { IfOk result (λ rows. AllPairs Follows rows.items) }
 {
-    let Ok(mut post_state) = PostState::open(alloc, policy) else {
-        return Err(NoMemory);
+    let mut post_state = match PostState::open(alloc, policy) {
+        Ok(post_state) => post_state,
+        Err(refused) => return Err(refused),
     };
     let last = known_at_last(alloc, policy, &mut post_state, book);
     drop(post_state);
-    let Ok(known) = last else {
-        return Err(NoMemory);
+    let known = match last {
+        Ok(known) => known,
+        Err(refused) => return Err(refused),
     };
     let Known { rows, sets } = known;
     drop(sets);
@@ -160,6 +163,6 @@ pub fn held(alloc: Global, policy: &Policy, book: &Book) -> Result<Vec<Row>, Boo
     check_book(alloc, policy, book)?;
     match rows_of(alloc, policy, book) {
         Ok(rows) => Ok(rows),
-        Err(_) => Err(BookFault::NoMemory),
+        Err(refused) => Err(BookFault::from(refused)),
     }
 }

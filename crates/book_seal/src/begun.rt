@@ -29,7 +29,7 @@ pub(crate) fn read_begun(
         Ok(book) => Ok((book, true)),
         Err(ReadFault::Cut) => match read_cut(alloc, policy, text) {
             Ok(book) => Ok((book, false)),
-            Err(_) => Err(SealFault::NoMemory),
+            Err(refused) => Err(SealFault::from(refused)),
         },
         Err(ReadFault::BadLine(number)) => Err(SealFault::BadLine(number)),
         Err(ReadFault::NoMemory) => Err(SealFault::NoMemory),
@@ -51,7 +51,7 @@ fn read_cut(alloc: Global, policy: &Policy, text: &[u8]) -> Result<Book, NoMemor
     let whole = with_end(alloc, prefix, entries)?;
     match read_book(alloc, policy, &whole) {
         Ok(book) => Ok(book),
-        Err(ReadFault::NoMemory) => Err(NoMemory),
+        Err(ReadFault::NoMemory) => Err(NoMemory::of_fault()),
         Err(ReadFault::Cut) => unreachable!(),
         Err(ReadFault::BadLine(_)) => unreachable!(),
     }

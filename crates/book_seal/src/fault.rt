@@ -1,6 +1,7 @@
 //! Why a text has no seal.
 
 use thiserror::Error;
+use wall_labels::NoMemory;
 
 /// Why a text has no seal. Lines and entries count from 1.
 #[derive(Clone, Copy, Debug, PartialEq, Eq, Error)]
@@ -15,4 +16,15 @@ pub enum SealFault {
     /// Memory ran out.
     #[error("out of memory")]
     NoMemory,
+}
+
+impl From<NoMemory> for SealFault {
+    ghost use Rattle.std.specs.Prelude.{◌≡◌};
+    ghost use Rattle.book_seal.specs.declared.fault.SealFault.TheVariants.{NoMemory};
+
+    ghost from_gives = { λ _ e. e ≡ NoMemory };
+
+    fn from(_refused: NoMemory) -> SealFault {
+        SealFault::NoMemory
+    }
 }

@@ -71,7 +71,7 @@ fn complete(
                     book.push(verdict);
                     Ok(book)
                 }
-                Err(_) => Err(SealFault::NoMemory),
+                Err(refused) => Err(SealFault::from(refused)),
             }
         }
         Err(BookFault::BadEntry(number)) => Err(SealFault::BadEntry(number)),

@@ -1,6 +1,7 @@
 //! Why a source has no sound book.
 
 use thiserror::Error;
+use wall_labels::NoMemory;
 
 /// Why a source has no sound book, or is not read to its end. Lines and entries count from 1.
 #[derive(Clone, Copy, Debug, PartialEq, Eq, Error)]
@@ -28,4 +29,15 @@ pub enum AuditFault {
     Read,
     #[error("out of memory")]
     NoMemory,
+}
+
+impl From<NoMemory> for AuditFault {
+    ghost use Rattle.std.specs.Prelude.{◌≡◌};
+    ghost use Rattle.book_stream.specs.declared.fault.AuditFault.TheVariants.{NoMemory};
+
+    ghost from_gives = { λ _ e. e ≡ NoMemory };
+
+    fn from(_refused: NoMemory) -> AuditFault {
+        AuditFault::NoMemory
+    }
 }

@@ -59,8 +59,9 @@ pub fn pass_source<S: Source>(
         Ok(audit) => audit,
         Err(fault) => return Err(fault),
     };
-    let Ok(held) = held_at(alloc, audit) else {
-        return Err(AuditFault::NoMemory);
+    let held = match held_at(alloc, audit) {
+        Ok(held) => held,
+        Err(refused) => return Err(AuditFault::from(refused)),
     };
     Ok(Passed {
         entries: audit.entries(),

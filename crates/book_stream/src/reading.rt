@@ -69,7 +69,7 @@ fn judge(
     policy: &Policy,
     reading: &mut Reading,
     entry: &Entry,
-    lacks: bool,
+    memory: Memory,
 ) -> Option<BookFault>
     requires reading { (entries : List BookEntry) × (length entries < 2 ^ 62)
         × IsJudged policy.now reading.old.audit reading.old.fault entries }
@@ -78,7 +78,7 @@ fn judge(
     ensures judged { (entries : List BookEntry) (said : BookEntry) →
         reading.old.entries ≡ length entries → length entries < 2 ^ 62 →
         IsJudged policy.now reading.old.audit reading.old.fault entries →
-        (lacks ≡ false → entry.now ≡ said) →
+        (memory ≡ false → entry.now ≡ said) →
         IsJudged policy.now reading.new.audit result (entries ++ said ∷ []) }
     ensures stage { reading.new.stage ≡ reading.old.stage }
     ensures number { reading.new.entries ≡ reading.old.entries }
@@ -86,8 +86,9 @@ fn judge(
     if let Some(fault) = reading.fault {
         return Some(fault);
     }
-    if lacks {
-        return Some(BookFault::NoMemory);
+    match memory.end() {
+        Ok(()) => {}
+        Err(refused) => return Some(BookFault::from(refused)),
     }
     step(
         alloc,
@@ -129,7 +130,7 @@ fn take_entry(
     let mut memory = Memory::new(alloc);
     match read_line(&mut memory, policy, line) {
         Ok(Line::Said(entry)) => {
-            reading.fault = judge(alloc, policy, reading, &entry, memory.ran_out());
+            reading.fault = judge(alloc, policy, reading, &entry, memory);
             reading.entries += 1;
             drop(entry);
             Ok(())

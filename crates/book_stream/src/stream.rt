@@ -55,7 +55,7 @@ fn take_one(
     }
     match reader.line.begin(next) {
         Ok(()) => Ok(()),
-        Err(_) => Err(AuditFault::NoMemory),
+        Err(refused) => Err(AuditFault::from(NoMemory::from(refused))),
     }
 }
 
@@ -76,7 +76,7 @@ fn take_in(
     };
     match reader.line.add(first) {
         Ok(()) => {}
-        Err(_) => return Err(AuditFault::NoMemory),
+        Err(refused) => return Err(AuditFault::from(NoMemory::from(refused))),
     }
     while let Some(part) = parts.next_long() {
         match take_one(alloc, policy, reader, part) {
@@ -168,8 +168,9 @@ pub(crate) fn read_whole<S: Source, T: Along>(
     ensures fault { IfErr result (λ fault. AuditsTo policy.now
         (used S.failures S.remaining source.old source.new) (Err fault)) }
 {
-    let Ok(mut reader) = begin(alloc, policy) else {
-        return Err(AuditFault::NoMemory);
+    let mut reader = match begin(alloc, policy) {
+        Ok(reader) => reader,
+        Err(refused) => return Err(AuditFault::from(refused)),
     };
     let mut buffer = [0u8; 4096];
     for reads in 0..u64::MAX {

@@ -7,7 +7,7 @@ use Rattle.chain_file.specs.Text.{Chain}
 use Rattle.chain_file.specs.Walks.{AreKept, HasHeads}
 
 abbrev pub Keeps : Kept → Chain → Type 0
-Keeps kept chain = AreKept kept.ended.items kept.under_way kept.lacks chain
+Keeps kept chain = AreKept kept.ended.items kept.under_way (is_some kept.refused) chain
 
 -- the lines of this chain have been read
 pub record HasRead (walk : Walk) (chain : Chain) : Type 0 where

@@ -1,6 +1,7 @@
 //! Why a text is no chain file, and why a run is not entered.
 use std::alloc::AllocError;
 use thiserror::Error;
+use wall_labels::NoMemory;
 
 /// Why a text is no chain file. Lines count from 1. (Own format.)
 #[derive(Clone, Copy, Debug, PartialEq, Eq, Error)]
@@ -20,6 +21,17 @@ pub enum ChainFault {
     NoMemory,
 }
 
+impl From<NoMemory> for ChainFault {
+    ghost use Rattle.std.specs.Prelude.{◌≡◌};
+    ghost use Rattle.chain_file.specs.declared.fault.ChainFault.TheVariants.{NoMemory};
+
+    ghost from_gives = { λ _ e. e ≡ NoMemory };
+
+    fn from(_refused: NoMemory) -> ChainFault {
+        ChainFault::NoMemory
+    }
+}
+
 /// Why a run is not entered. The chain is as it was.
 #[derive(Clone, Copy, Debug, PartialEq, Eq, Error)]
 pub enum EnterFault {
@@ -31,13 +43,24 @@ pub enum EnterFault {
     NoMemory,
 }
 
+impl From<NoMemory> for EnterFault {
+    ghost use Rattle.std.specs.Prelude.{◌≡◌};
+    ghost use Rattle.chain_file.specs.declared.fault.EnterFault.TheVariants.{NoMemory};
+
+    ghost from_gives = { λ _ e. e ≡ NoMemory };
+
+    fn from(_refused: NoMemory) -> EnterFault {
+        EnterFault::NoMemory
+    }
+}
+
 impl From<AllocError> for EnterFault {
     ghost use Rattle.std.specs.Prelude.{◌≡◌};
     ghost use Rattle.chain_file.specs.declared.fault.EnterFault.TheVariants.{NoMemory};
 
     ghost from_gives = { λ _ e. e ≡ NoMemory };
 
-    fn from(_e: AllocError) -> EnterFault {
-        EnterFault::NoMemory
+    fn from(refused: AllocError) -> EnterFault {
+        EnterFault::from(NoMemory::from(refused))
     }
 }

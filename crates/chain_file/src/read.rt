@@ -42,8 +42,8 @@ fn file_of(walk: Walk) -> Result<ChainFile, ChainFault>
         head,
         ..
     } = walk;
-    if kept.lacks {
-        return Err(ChainFault::NoMemory);
+    if let Some(refused) = kept.refused {
+        return Err(ChainFault::from(refused));
     }
     Ok(ChainFile::of(kept.ended, kept.under_way, heads, head))
 }

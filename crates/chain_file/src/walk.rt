@@ -29,7 +29,7 @@ pub(crate) struct Kept {
     pub alloc: Global,
     pub ended: Vec<Run>,
     pub under_way: Option<Begun>,
-    pub lacks: bool,
+    pub refused: Option<NoMemory>,
 }
 
 /// How far a chain file has been read.
@@ -84,12 +84,12 @@ impl Kept {
             path_in book.now ≡ Some begun.book →
             Keeps self.new (record { ended = chain.ended; under_way = Some begun }) }
     {
-        if self.lacks {
+        if self.refused.is_some() {
             return;
         }
         match begun_of(self.alloc, policy, policy_digest, book) {
             Ok(begun) => self.under_way = Some(begun),
-            Err(_) => self.lacks = true,
+            Err(refused) => self.refused = Some(refused),
         }
     }
 
@@ -101,10 +101,11 @@ impl Kept {
             }) }
     {
         match self.under_way.take() {
-            None => self.lacks = true,
+            // It is lacking, so memory was refused before.
+            None => {}
             Some(begun) => match self.ended.push(Run { begun, book_digest }) {
                 Ok(()) => {}
-                Err(_) => self.lacks = true,
+                Err(refused) => self.refused = Some(NoMemory::from(refused)),
             },
         }
     }
@@ -119,7 +120,7 @@ impl Walk {
                 alloc,
                 ended: Vec::new(alloc),
                 under_way: None,
-                lacks: false,
+                refused: None,
             },
             is_open: false,
             heads: Heads::begin(FIRST_TEXT),

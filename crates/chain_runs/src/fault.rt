@@ -2,6 +2,7 @@
 
 use book_stream::AuditFault;
 use thiserror::Error;
+use wall_labels::NoMemory;
 use wall_policy::{GrowthFault, PolicyFault};
 
 /// Why a run of a chain does not stand, in the order in which it is found. (Own rule.)
@@ -31,4 +32,15 @@ pub enum RunFault {
     /// Memory ran out.
     #[error("out of memory")]
     NoMemory,
+}
+
+impl From<NoMemory> for RunFault {
+    ghost use Rattle.std.specs.Prelude.{◌≡◌};
+    ghost use Rattle.chain_runs.specs.declared.fault.RunFault.TheVariants.{NoMemory};
+
+    ghost from_gives = { λ _ e. e ≡ NoMemory };
+
+    fn from(_refused: NoMemory) -> RunFault {
+        RunFault::NoMemory
+    }
 }

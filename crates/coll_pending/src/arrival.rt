@@ -3,6 +3,7 @@
 use coll_routes::Stated;
 use coll_values::Full;
 use thiserror::Error;
+use wall_labels::NoMemory;
 
 /// What the next arrival of a member would do.
 #[derive(Clone, Copy, Debug, PartialEq, Eq)]
@@ -45,6 +46,17 @@ pub enum ArrivalFault {
     Mismatch,
     #[error("out of memory")]
     NoMemory,
+}
+
+impl From<NoMemory> for ArrivalFault {
+    ghost use Rattle.std.specs.Prelude.{◌≡◌};
+    ghost use Rattle.coll_pending.specs.declared.arrival.ArrivalFault.TheVariants.{NoMemory};
+
+    ghost from_gives = { λ _ f. f ≡ NoMemory };
+
+    fn from(_refused: NoMemory) -> ArrivalFault {
+        ArrivalFault::NoMemory
+    }
 }
 
 /// An arrival that was refused, with what was handed in.

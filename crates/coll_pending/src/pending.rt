@@ -244,7 +244,7 @@ impl<X: Drop> Pending<X> {
             Next::Mismatch => Err(ArrivalFault::Mismatch),
             Next::Opens => match self.open(meeting, of, sig) {
                 Ok(()) => Ok(()),
-                Err(_) => Err(ArrivalFault::NoMemory),
+                Err(refused) => Err(ArrivalFault::from(refused)),
             },
             _ => Ok(()),
         }

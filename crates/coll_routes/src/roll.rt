@@ -80,7 +80,7 @@ fn copied(grid: &Grid, alloc: Global) -> Result<Grid, NoMemory>
 {
     match grid.copy(alloc) {
         Ok(copy) => Ok(copy),
-        Err(_) => Err(NoMemory),
+        Err(refused) => Err(NoMemory::from(refused)),
     }
 }
 

@@ -1,6 +1,7 @@
 //! Why a line is refused.
 use std::alloc::{AllocError, AllocFailed};
 use thiserror::Error;
+use wall_labels::NoMemory;
 
 /// Why a line is no call: its first fault from the left. (Own format.)
 ///
@@ -41,14 +42,25 @@ pub enum LineFault {
     NoMemory,
 }
 
+impl From<NoMemory> for LineFault {
+    ghost use Rattle.std.specs.Prelude.{◌≡◌};
+    ghost use Rattle.coll_text.specs.declared.fault.LineFault.TheVariants.{NoMemory};
+
+    ghost from_gives = { λ _ e. e ≡ NoMemory };
+
+    fn from(_refused: NoMemory) -> LineFault {
+        LineFault::NoMemory
+    }
+}
+
 impl From<AllocError> for LineFault {
     ghost use Rattle.std.specs.Prelude.{◌≡◌};
     ghost use Rattle.coll_text.specs.declared.fault.LineFault.TheVariants.{NoMemory};
 
     ghost from_gives = { λ _ e. e ≡ NoMemory };
 
-    fn from(_e: AllocError) -> LineFault {
-        LineFault::NoMemory
+    fn from(refused: AllocError) -> LineFault {
+        LineFault::from(NoMemory::from(refused))
     }
 }
 
@@ -58,7 +70,7 @@ impl<T: Drop> From<AllocFailed<T>> for LineFault {
 
     ghost from_gives = { λ _ e. e ≡ NoMemory };
 
-    fn from(_e: AllocFailed<T>) -> LineFault {
-        LineFault::NoMemory
+    fn from(refused: AllocFailed<T>) -> LineFault {
+        LineFault::from(NoMemory::from(refused))
     }
 }

@@ -12,6 +12,7 @@ use crate::parts::Parts;
 use crate::words::{next_word, number_in};
 use coll_routes::{Flags, Numbers};
 use std::alloc::AllocError;
+use wall_labels::NoMemory;
 
 // Room is made at once for all numbers of a list, where they are no more.
 const ROOM: usize = 64;
@@ -84,9 +85,9 @@ fn keep_number(memory: &mut Memory, numbers: &mut Vec<u32>, word: &[u8], number:
     match make_room(numbers, word) {
         Ok(()) => match numbers.push(number) {
             Ok(()) => {}
-            Err(_) => memory.run_out(),
+            Err(refused) => memory.run_out(NoMemory::from(refused)),
         },
-        Err(_) => memory.run_out(),
+        Err(refused) => memory.run_out(NoMemory::from(refused)),
     }
 }
 
@@ -135,7 +136,7 @@ fn keep_flag(memory: &mut Memory, flags: &mut Vec<bool>, flag: bool)
     }
     match flags.push(flag) {
         Ok(()) => {}
-        Err(_) => memory.run_out(),
+        Err(refused) => memory.run_out(NoMemory::from(refused)),
     }
 }
 

@@ -2,11 +2,12 @@
 //!
 //! A fault of a line is told before out of memory, and which comes first is known at the end alone.
 //! So a reader that is refused a growth does not end there: it says so here and reads on, to the
-//! first fault or to the end. Who made the memory asks once, when all was read, whether it ran out.
-ghost use Rattle.std.specs.Prelude.{◌≡◌, true, false};
+//! first fault or to the end. Who made the memory ends it once, when all was read.
+ghost use Rattle.std.specs.Prelude.{◌≡◌, true, false, is_err};
 
 use std::alloc::Global;
 use std::marker::Model;
+use wall_labels::NoMemory;
 
 /// Where readers take memory, seen as whether it ran out.
 ///
@@ -15,15 +16,16 @@ use std::marker::Model;
 #[derive(Drop)]
 pub struct Memory {
     alloc: Global,
-    ran_out: bool,
+    // The last growth that was refused.
+    refused: Option<NoMemory>,
 }
 
 impl Model for Memory {
-    ghost use Rattle.std.specs.Prelude.{Bool};
+    ghost use Rattle.std.specs.Prelude.{Bool, is_some};
 
     ghost Value = { Bool };
 
-    ghost view = { λ m. m.ran_out };
+    ghost view = { λ m. is_some m.refused };
 }
 
 impl Memory {
@@ -33,7 +35,7 @@ impl Memory {
     {
         Memory {
             alloc,
-            ran_out: false,
+            refused: None,
         }
     }
 
@@ -46,13 +48,27 @@ impl Memory {
     pub fn ran_out(&self) -> bool
         ensures { result ≡ self.now }
     {
-        self.ran_out
+        self.refused.is_some()
     }
 
-    /// Says that a growth was refused.
-    pub fn run_out(&mut self)
+    /// Says that a growth was refused, by its evidence.
+    pub fn run_out(&mut self, refused: NoMemory)
         ensures { self.new ≡ true }
     {
-        self.ran_out = true;
+        self.refused = Some(refused);
+    }
+
+    /// Ends it: out of memory where a growth was refused, and then alone.
+    pub fn end(self) -> Result<(), NoMemory>
+        ensures { is_err result ≡ self }
+    {
+        let Memory {
+            alloc: _alloc,
+            refused,
+        } = self;
+        match refused {
+            None => Ok(()),
+            Some(refused) => Err(refused),
+        }
     }
 }

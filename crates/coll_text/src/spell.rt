@@ -167,9 +167,9 @@ pub fn write_statement(sig: &Signature, own: &Own, text: &mut Vec<u8>) -> Result
     let len = text.len();
     match put_statement(text, sig, own) {
         Ok(()) => Ok(()),
-        Err(_) => {
+        Err(refused) => {
             text.truncate(len);
-            Err(NoMemory)
+            Err(NoMemory::from(refused))
         }
     }
 }

@@ -225,8 +225,8 @@ impl Table {
                 self.pending
                     .arrive_ready(meeting, &self.group, &self.shape, stated, part),
             ),
-            Err(_) => Err(Unarrived {
-                fault: ArrivalFault::NoMemory,
+            Err(refused) => Err(Unarrived {
+                fault: ArrivalFault::from(refused),
                 stated,
                 part,
             }),
@@ -257,12 +257,12 @@ fn expect_answer(
         Ok(Arrived::Full(full)) => {
             assert!(rt; full.roll.is_fit() && full.parts.as_slice() == parts);
         }
-        Err(refused) => {
-            if refused.fault == ArrivalFault::NoMemory {
-                return Err(NoMemory);
+        Err(refused) => match refused.fault {
+            ArrivalFault::NoMemory => return Err(NoMemory::of_fault()),
+            ArrivalFault::Mismatch => {
+                assert!(rt; next == Next::Mismatch && refused.part == part);
             }
-            assert!(rt; next == Next::Mismatch && refused.part == part);
-        }
+        },
     }
     Ok(())
 }

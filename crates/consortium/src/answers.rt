@@ -20,6 +20,12 @@ pub(crate) enum Refusal {
     NoMemory,
 }
 
+impl From<AllocError> for Refusal {
+    fn from(_refused: AllocError) -> Refusal {
+        Refusal::NoMemory
+    }
+}
+
 impl Refusal {
     /// The last line of its answer.
     pub(crate) fn line(self) -> &'static str {

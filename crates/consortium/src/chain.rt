@@ -15,7 +15,7 @@ use program_files::{ListedFile, read_again, write_again};
 use std::alloc::{AllocError, Global};
 use std::fs::{File, OpenOptions};
 use std::io::{Seek, SeekFrom};
-use wall_labels::Sink;
+use wall_labels::{NoMemory, Sink};
 use wall_policy::Policy;
 
 /// The file of a chain, which nobody else goes on with meanwhile.
@@ -211,12 +211,16 @@ impl<'a> HeldChain<'a> {
         digest: [u8; 32],
         book: &str,
     ) -> Result<(), Unentered> {
-        let Ok(policy) = path_of(alloc, policy) else {
-            return Err(Unentered::For(Ending::NoMemory));
+        let policy = match path_of(alloc, policy) {
+            Ok(policy) => policy,
+            Err(refused) => return Err(Unentered::For(Ending::from(NoMemory::from(refused)))),
         };
-        let Ok(book) = path_of(alloc, book) else {
-            drop(policy);
-            return Err(Unentered::For(Ending::NoMemory));
+        let book = match path_of(alloc, book) {
+            Ok(book) => book,
+            Err(refused) => {
+                drop(policy);
+                return Err(Unentered::For(Ending::from(NoMemory::from(refused))));
+            }
         };
         // (A file at the empty path was neither read nor made.)
         let (Some(policy), Some(book)) = (policy, book) else {

@@ -20,8 +20,8 @@ pub(crate) struct Ended {
     status: u8,
     /// How many sessions have ended.
     pub(crate) sessions: usize,
-    // Memory was refused to one of them.
-    has_no_memory: bool,
+    // The end of one of them to which memory was refused, if there is such a one.
+    no_memory: Option<SessionEnd>,
     // A call of one of them was not made: it had made as many as it may, or the door was too late.
     is_exhausted: bool,
     // The file of the book is not on the disk, where it is to be.
@@ -34,7 +34,7 @@ impl Ended {
         Ended {
             status,
             sessions: 0,
-            has_no_memory: false,
+            no_memory: None,
             is_exhausted: false,
             is_unsynced,
         }
@@ -44,7 +44,7 @@ impl Ended {
     fn count(&mut self, end: SessionEnd) {
         self.sessions = self.sessions.saturating_add(1);
         match end {
-            SessionEnd::NoMemory => self.has_no_memory = true,
+            SessionEnd::NoMemory => self.no_memory = Some(end),
             SessionEnd::Exhausted => self.is_exhausted = true,
             SessionEnd::EndOfStream
             | SessionEnd::Left
@@ -136,7 +136,7 @@ pub(crate) fn status_of<R: Wait, E: Sink>(
     if ended.status != 0 {
         return ended.status;
     }
-    if ended.has_no_memory {
+    if let Some(SessionEnd::NoMemory) = ended.no_memory {
         return end(err, Ending::NoMemory);
     }
     if ended.is_exhausted {

@@ -19,7 +19,7 @@ use std::env::Args;
 use std::fs::{File, Metadata, OpenOptions, TryLockError};
 use std::sync::ledger::{Blank, Ledger};
 use std::{env, fs};
-use wall_labels::{Failed, Sink, write_all};
+use wall_labels::{Failed, NoMemory, Sink, write_all};
 
 /// The files of a command line that are held. The locks go with it.
 #[derive(Drop)]
@@ -35,6 +35,12 @@ enum Unheld<'a> {
     // The chain has this file, which was to be written over.
     OfChain(&'a str),
     NoMemory,
+}
+
+impl<'a> From<NoMemory> for Unheld<'a> {
+    fn from(_refused: NoMemory) -> Unheld<'a> {
+        Unheld::NoMemory
+    }
 }
 
 // A file against which others are held, if there is one of that kind.
@@ -84,7 +90,7 @@ impl HeldBooks {
         match tried {
             Ok(()) => match self.files.push(file) {
                 Ok(()) => Ok(()),
-                Err(_) => Err(Unheld::NoMemory),
+                Err(refused) => Err(Unheld::from(NoMemory::from(refused))),
             },
             Err(TryLockError::WouldBlock) => Err(Unheld::InUse(path)),
             Err(TryLockError::Error(_)) => Ok(()),
@@ -126,7 +132,7 @@ impl HeldBooks {
             match is_of_chain(alloc, files, chain, &found) {
                 Ok(false) => {}
                 Ok(true) => return Err(Unheld::OfChain(path)),
-                Err(_) => return Err(Unheld::NoMemory),
+                Err(refused) => return Err(Unheld::from(refused)),
             }
         }
         self.hold(files, path, true)
@@ -194,14 +200,14 @@ fn is_of_chain(
     files: &HostRuntime,
     path: &str,
     found: &Metadata,
-) -> Result<bool, AllocError> {
+) -> Result<bool, NoMemory> {
     if is_same_at(files, path, found) {
         return Ok(true);
     }
     let mut source = file_at(files, path);
     match read_chain_file(alloc, &mut source) {
         Ok(chain) => Ok(is_of_runs(files, &chain, found)),
-        Err(NoChain::NoMemory) => Err(AllocError),
+        Err(NoChain::NoMemory) => Err(NoMemory::of_fault()),
         Err(_) => Ok(false),
     }
 }
@@ -272,11 +278,13 @@ fn hold_asked<E: Sink>(
         Ok(args) => args,
         Err(fault) => return unasked(err, ArgFault::from(fault)),
     };
-    let Ok(words) = words_of(alloc, args) else {
-        return unasked(err, ArgFault::NoMemory);
+    let words = match words_of(alloc, args) {
+        Ok(words) => words,
+        Err(refused) => return unasked(err, ArgFault::from(refused)),
     };
-    let Ok(texts) = texts(alloc, &words) else {
-        return unasked(err, ArgFault::NoMemory);
+    let texts = match texts(alloc, &words) {
+        Ok(texts) => texts,
+        Err(refused) => return unasked(err, ArgFault::from(refused)),
     };
     let command = match read_words(alloc, &texts) {
         Ok(command) => command,

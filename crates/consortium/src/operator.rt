@@ -282,6 +282,6 @@ impl<'o, 'q, 'g, 'n, R: AllocGlobal + Wait> Operator<'o, 'q, 'g, 'n, R> {
 fn told(put: Result<(), AllocError>) -> Result<(), Refusal> {
     match put {
         Ok(()) => Ok(()),
-        Err(_) => Err(Refusal::NoMemory),
+        Err(refused) => Err(Refusal::from(refused)),
     }
 }

@@ -20,7 +20,7 @@ use program_line::last_policy;
 use std::alloc::{AllocError, Global};
 use std::fs;
 use std::sync::ledger::{Blank, Ledger};
-use wall_labels::{Failed, Sink, write_all};
+use wall_labels::{Failed, NoMemory, Sink, write_all};
 use wall_policy::Policy;
 
 /// A new ledger for the failures of each device of a seal.
@@ -168,17 +168,19 @@ impl<'a> Sealing<'a> {
         let book = match self.book_path() {
             Ok(Some(book)) => book,
             Ok(None) => return end(err, Ending::ReadFault),
-            Err(_) => return end(err, Ending::NoMemory),
+            Err(refused) => return end(err, Ending::from(NoMemory::from(refused))),
         };
-        let Ok(beside) = format!(in self.alloc; "{book}.sealed") else {
-            return end(err, Ending::NoMemory);
+        let beside = match format!(in self.alloc; "{book}.sealed") {
+            Ok(beside) => beside,
+            Err(refused) => return end(err, Ending::from(NoMemory::from(refused))),
         };
         // What an earlier seal left that was stopped; it is no book of the chain.
         if !self.chain.has_book(&beside) {
             take_away(self.files, &beside);
         }
-        let Ok(line) = Vec::with_capacity(self.alloc, LINE_ROOM) else {
-            return end(err, Ending::NoMemory);
+        let line = match Vec::with_capacity(self.alloc, LINE_ROOM) {
+            Ok(line) => line,
+            Err(refused) => return end(err, Ending::from(NoMemory::from(refused))),
         };
         let mut told = Kept {
             line,

@@ -24,7 +24,7 @@ use std::sync::Wait;
 use std::sync::ledger::{Blank, Ledger};
 use std::thread;
 use std::thread::Threads;
-use wall_labels::Sink;
+use wall_labels::{NoMemory, Sink};
 use wall_policy::Policy;
 
 /// The system of a server: its files, and its streams.
@@ -140,14 +140,16 @@ impl<'a, R: AllocGlobal + Threads + Wait + Sync> PipeServer<'a, R> {
     // Holds the folder, looks at the pipes, and serves at them if nothing is amiss.
     fn serve_under<E: Sink>(&self, policy: &Policy, run: Option<NextRun>, err: &mut E) -> u8 {
         let alloc = self.rt.alloc();
-        let Ok(mut folder) = Folder::at(alloc, self.files, &self.paths.pipes) else {
-            return end(err, Ending::NoMemory);
+        let mut folder = match Folder::at(alloc, self.files, &self.paths.pipes) {
+            Ok(folder) => folder,
+            Err(refused) => return end(err, Ending::from(NoMemory::from(refused))),
         };
         if let Some(unready) = folder.hold() {
             return refuse(err, unready);
         }
-        let Ok(mut all) = pipes_in(alloc, policy, &self.paths.pipes) else {
-            return end(err, Ending::NoMemory);
+        let mut all = match pipes_in(alloc, policy, &self.paths.pipes) {
+            Ok(all) => all,
+            Err(refused) => return end(err, Ending::from(NoMemory::from(refused))),
         };
         if let Some(unready) = first_fault(self.files, &mut all) {
             return refuse(err, unready);
@@ -164,16 +166,18 @@ impl<'a, R: AllocGlobal + Threads + Wait + Sync> PipeServer<'a, R> {
         } else {
             None
         };
-        let Ok(events) = Events::new(alloc, all.len(), clock) else {
-            return end(err, Ending::NoMemory);
+        let events = match Events::new(alloc, all.len(), clock) {
+            Ok(events) => events,
+            Err(refused) => return end(err, Ending::from(NoMemory::from(refused))),
         };
         self.serve_at(policy, &all, &folder, &operator, &events, run, err)
     }
 
     // The pipes of the operator, if there are any, and they are as they must be; or the status.
     fn operator_pipes<E: Sink>(&self, err: &mut E) -> Result<Option<Pipes<'static>>, u8> {
-        let Ok(mut pipes) = operator_pipes(self.rt.alloc(), &self.paths.pipes) else {
-            return Err(end(err, Ending::NoMemory));
+        let mut pipes = match operator_pipes(self.rt.alloc(), &self.paths.pipes) {
+            Ok(pipes) => pipes,
+            Err(refused) => return Err(end(err, Ending::from(NoMemory::from(refused)))),
         };
         if !pipes.are_there(self.files) {
             return Ok(None);
@@ -197,14 +201,17 @@ impl<'a, R: AllocGlobal + Threads + Wait + Sync> PipeServer<'a, R> {
     ) -> u8 {
         let rt = self.rt;
         let alloc = rt.alloc();
-        let Ok(lines) = EventLines::new(alloc, self.out) else {
-            return end(err, Ending::NoMemory);
+        let lines = match EventLines::new(alloc, self.out) {
+            Ok(lines) => lines,
+            Err(refused) => return end(err, Ending::from(NoMemory::from(refused))),
         };
-        let Ok(desks) = desks_at(rt, alloc, self.files, all, events) else {
-            return end(err, Ending::NoMemory);
+        let desks = match desks_at(rt, alloc, self.files, all, events) {
+            Ok(desks) => desks,
+            Err(refused) => return end(err, Ending::from(NoMemory::from(refused))),
         };
-        let Ok(peers) = peers_at(alloc, &desks) else {
-            return end(err, Ending::NoMemory);
+        let peers = match peers_at(alloc, &desks) {
+            Ok(peers) => peers,
+            Err(refused) => return end(err, Ending::from(NoMemory::from(refused))),
         };
         let pair = match open_operator(alloc, self.files, operator, err) {
             Ok(pair) => pair,
@@ -308,8 +315,9 @@ fn open_operator<E: Sink>(
     let Some(pipes) = pipes else {
         return Ok(None);
     };
-    let Ok(line) = OrderLine::new(alloc) else {
-        return Err(end(err, Ending::NoMemory));
+    let line = match OrderLine::new(alloc) {
+        Ok(line) => line,
+        Err(refused) => return Err(end(err, Ending::from(NoMemory::from(refused)))),
     };
     match OperatorPair::open(files, pipes, line) {
         Ok(pair) => Ok(Some(pair)),

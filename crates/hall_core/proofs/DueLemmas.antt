@@ -24,6 +24,7 @@ use Rattle.hall_core.specs.declared.requests.Request.{Request}
 use Rattle.hall_core.specs.declared.settled.Settlement.{Settlement}
 use Rattle.hall_core.specs.Asking.{Asked, opened, requests_of}
 use Rattle.hall_core.specs.Claims.{to_take, claim_reply, HoldsShare, HoldsWhatIsKept, IsHeld}
+use Rattle.hall_core.specs.Claims.{IsUngranted}
 use Rattle.hall_core.specs.Halls.{HallValue, HallView, settlement, view_of}
 use Rattle.hall_core.specs.Invariant.{IsHallView}
 use Rattle.hall_core.specs.Looks.{IsOf, IsOpen, IsDue, IsOutcome, Finds, due_reply}
@@ -135,7 +136,7 @@ module _ (hall : HallView) (p r : ℕ) (full : Full Contents) (rank : ℕ) (it :
       (λ m is stands. wanting hall m stands it.process it.request (instance_for it)
       (settlement full Granted) grant.is_open.waits grant.is_open.came refl))
 
-  grant_held : IsHeld hall p r full rank
+  pub grant_held : IsHeld hall p r full rank
   grant_held = record {
     asked = instance_for it;
     waits = (λ i. opened (hall.asked (sym grant.of.process i)) (sym grant.of.number i))
@@ -143,6 +144,18 @@ module _ (hall : HallView) (p r : ℕ) (full : Full Contents) (rank : ℕ) (it :
     granted = grant.is_open.came;
     is_member = grant.is_member;
   }
+
+-- what was not granted is found so
+pub not_granted : (hall : HallView) (p r : ℕ) (full : Full Contents) (rank : ℕ) (it : Open) →
+    IsUngranted hall p r → IsGrantIn hall p r full rank it → ⊥
+not_granted hall p r full rank it u grant =
+    let held = grant_held hall p r full rank it grant in
+    let some : Some u.asked ≡ Some held.asked = sym u.waits ∙ held.waits in
+    let same : u.asked ≡ held.asked = cc in
+    let came : Some u.outcome ≡ Some (settlement full Granted) = sym u.came
+    ∙ ap (λ (q : Request). hall.settled q.comm q.k) same ∙ held.granted in
+    let granted : u.outcome ≡ settlement full Granted = cc in
+    u.other (ap (λ (s : Settlement). s.outcome) granted)
 
 -- ## claims
 

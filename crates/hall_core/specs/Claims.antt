@@ -1,5 +1,5 @@
 -- Claims: takes that leave the filling to their caller.
-use Rattle.std.specs.Prelude.{◌≡◌, ℕ, ◌<◌, Some, slice_get}
+use Rattle.std.specs.Prelude.{◌≡◌, ◌≢◌, ℕ, ◌<◌, Some, slice_get}
 use Rattle.std.specs.Arc.{arc_value}
 use Rattle.wall_policy.specs.Policy.{ChineseWall}
 use Rattle.mpi_elems.specs.Contents.{Contents}
@@ -24,6 +24,7 @@ use Rattle.run_model.specs.Replies.{posts_made, comm_at}
 use Rattle.hall_core.specs.declared.claims.Claim.{Claim}
 use Rattle.hall_core.specs.declared.claims.Claim.TheVariants.{Done, Ready}
 use Rattle.hall_core.specs.declared.requests.Request.{Request}
+use Rattle.hall_core.specs.declared.settled.Settlement.{Settlement}
 use Rattle.hall_core.specs.Asking.{opened}
 use Rattle.hall_core.specs.Halls.{HallView, settlement}
 
@@ -98,6 +99,14 @@ abbrev pub HoldsWhatIsKept : HallView → (p request : ℕ) → Claim → Type 0
 HoldsWhatIsKept hall p request (Done reply) = IsNoDelivery reply
 HoldsWhatIsKept hall p request (Ready shared rank room) =
     IsHeld hall p request (arc_value shared) rank
+
+-- p's request is open, and its instance was filled and not granted
+pub record IsUngranted (hall : HallView) (p request : ℕ) : Type 0 where
+  pub asked : Request
+  pub waits : opened (hall.asked p) request ≡ Some asked
+  pub outcome : Settlement
+  pub came : hall.settled asked.comm asked.k ≡ Some outcome
+  pub other : outcome.outcome ≢ Granted
 
 -- the claim has this instance, and the rank in it of p
 abbrev pub HoldsShare : (p : ℕ) → Full Contents → Claim → Type 0

@@ -1,5 +1,5 @@
 -- The places of instances, looked up by communicator and number.
-use Rattle.std.specs.Prelude.{◌≡◌, ℕ, ◌+◌, ◌-◌, ◌<◌, ◌==◌, ◌&&◌, List, [], length}
+use Rattle.std.specs.Prelude.{◌≡◌, ◌≢◌, ℕ, ◌+◌, ◌-◌, ◌<◌, ◌==◌, ◌&&◌, List, [], length}
 use Rattle.std.specs.Prelude.{slice_index_or, Option, None, Some, is_some, if◌then◌else◌}
 use Rattle.std.specs.Prelude.{Bool, true, false, not, ◌||◌, refl}
 use Rattle.std.proofs.Common.{eqb-true}
@@ -8,7 +8,7 @@ use Rattle.std.specs.Arc.{arc_value}
 use Rattle.run_model.specs.declared.outcome.Outcome.TheVariants.{Granted}
 use Rattle.hall_core.specs.declared.settled.Settlement.{Settlement}
 use Rattle.hall_core.specs.declared.settled.Share.{Share}
-use Rattle.hall_core.specs.declared.settled.Share.TheVariants.{Awaited, Given, Withheld}
+use Rattle.hall_core.specs.declared.settled.Share.TheVariants.{Awaited, Given, Refused, Withheld}
 use Rattle.hall_core.specs.declared.settled.Place.{Place}
 use Rattle.hall_core.specs.Asking.{open_for}
 use Rattle.hall_core.specs.Windows.{Windowed, IsInWindow}
@@ -106,4 +106,5 @@ pub record KeepsCount (asked : (p : ℕ) → List (Option Request)) (processes :
 abbrev pub IsShareOf : Option Settlement → Share → Type 0
 IsShareOf came Awaited = came ≡ None
 IsShareOf came (Given full) = came ≡ Some (record { full = arc_value full; outcome = Granted })
-IsShareOf came Withheld = (s : Settlement) × (came ≡ Some s)
+IsShareOf came (Refused _) = (s : Settlement) × ((came ≡ Some s) × (s.outcome ≡ Granted))
+IsShareOf came Withheld = (s : Settlement) × ((came ≡ Some s) × (s.outcome ≢ Granted))

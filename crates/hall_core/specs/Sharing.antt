@@ -1,5 +1,4 @@
 -- An instance that was filled, plain or shared.
-use Rattle.std.specs.Prelude.{Bool, true, false}
 use Rattle.std.specs.Arc.{arc_value}
 use Rattle.mpi_elems.specs.Contents.{Contents}
 use Rattle.coll_values.specs.declared.full.Full.{Full}
@@ -10,8 +9,3 @@ use Rattle.hall_core.specs.declared.instance.Form.TheVariants.{Plain, Shared}
 abbrev pub full_in : Form → Full Contents
 full_in (Plain full) = full
 full_in (Shared shared) = arc_value shared
-
--- whether the hall alone has it
-abbrev pub is_plain : Form → Bool
-is_plain (Plain full) = true
-is_plain (Shared shared) = false

@@ -59,7 +59,7 @@ impl BriefHall {
     {
         match Records::open(alloc, policy) {
             Ok(records) => Ok(BriefHall { records }),
-            Err(_) => Err(NoMemory),
+            Err(refused) => Err(refused),
         }
     }
 

@@ -1,6 +1,6 @@
 //! Posts: refused, or entered and recorded.
 ghost use Rattle.std.specs.Prelude.{◌≡◌, ◌<◌, ◌^◌, ◌==◌, ◌&&◌, if◌then◌else◌, ℕ, not, IfOk, OnOk};
-ghost use Rattle.std.specs.Prelude.{OnErr, IsTrue, IsFalse, Some, None};
+ghost use Rattle.std.specs.Prelude.{OnErr, Some, None};
 ghost use Rattle.std.specs.Result.{result_err};
 ghost use Rattle.wall_rules.specs.Histories.{has};
 ghost use Rattle.coll_routes.specs.Faults.{stated_type};
@@ -31,7 +31,7 @@ use crate::{posts, requests};
 use coll_routes::Stated;
 use mpi_elems::Buffer;
 use run_model::{Entry, Posting, Refusal, Reply};
-use run_state::{Entered, Next, Seat, Terms};
+use run_state::{Entered, Next, Seat, Terms, Unentered};
 use wall_labels::{NoMemory, ProcessId};
 
 impl Records {
@@ -112,9 +112,9 @@ impl Records {
         posts::answer(entered, passed, request as u64, told)
     }
 
-    // Counts a post as a look found it, with what it states and its part; false, and nothing has
-    // changed, where memory runs out.
-    fn enter(&mut self, seat: Seat, stated: Stated, part: Buffer) -> bool
+    // Counts a post as a look found it, with what it states and its part; where memory runs out
+    // nothing has changed.
+    fn enter(&mut self, seat: Seat, stated: Stated, part: Buffer) -> Result<(), NoMemory>
         requires hall { IsHallView (view_in self.old) }
         requires may { MayAsk self.old seat.process }
         requires looked { LookedAt (seen self.old.post_state) seat stated.sig stated.own
@@ -123,40 +123,52 @@ impl Records {
             ≡ not (star (has self.old.post_state.accesses) seat.process stated.label) }
         requires form { HasForm (EntryPosted seat.process seat.meeting.comm stated) }
         ensures keeps { Keeps self.old self.new }
-        ensures entered { IsTrue result → Counts (view_in self.old) (view_in self.new)
-            (contribution seat.process seat.meeting.comm stated part) }
-        ensures unchanged { IsFalse result → view_in self.new ≡ view_in self.old }
+        ensures entered { OnOk result (Counts (view_in self.old) (view_in self.new)
+            (contribution seat.process seat.meeting.comm stated part)) }
+        ensures unchanged { OnErr result (view_in self.new ≡ view_in self.old) }
     {
         // What is owned is let go by a call on each way out: the proof would take it apart.
-        let Ok(copy) = stated.copy(self.alloc) else {
-            drop(stated);
-            drop(part);
-            return false;
+        let copy = match stated.copy(self.alloc) {
+            Ok(copy) => copy,
+            Err(refused) => {
+                drop(stated);
+                drop(part);
+                return Err(refused);
+            }
         };
         let member = seat.process;
         let comm = seat.meeting.comm;
         let k = seat.meeting.k;
         let does = seat.meeting.does;
-        let Ok(()) = self.make_room(member.number(), comm, k) else {
-            drop(copy);
-            drop(stated);
-            drop(part);
-            return false;
-        };
+        match self.make_room(member.number(), comm, k) {
+            Ok(()) => {}
+            Err(refused) => {
+                drop(copy);
+                drop(stated);
+                drop(part);
+                return Err(refused);
+            }
+        }
         if let Next::Joins = does {
             self.post_state.join(seat, stated, part);
             self.note(member, Request { comm, k }, copy);
-            return true;
+            return Ok(());
         }
         match self.post_state.enter(&self.policy, seat, stated, part) {
             Err(unentered) => {
+                let Unentered {
+                    refused,
+                    stated,
+                    part,
+                } = unentered;
                 drop(copy);
-                drop(unentered);
-                false
+                drop(stated);
+                drop(part);
+                Err(refused)
             }
             Ok(entered) => {
                 self.record(member, comm, copy, entered);
-                true
+                Ok(())
             }
         }
     }

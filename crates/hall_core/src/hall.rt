@@ -65,7 +65,7 @@ impl Hall {
     {
         match Records::open(alloc, policy) {
             Ok(records) => Ok(Hall { records }),
-            Err(_) => Err(NoMemory),
+            Err(refused) => Err(refused),
         }
     }
 

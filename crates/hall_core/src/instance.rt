@@ -1,7 +1,6 @@
 //! Instances that were filled, each plain or shared.
-ghost use Rattle.std.specs.Prelude.{◌≡◌, IfOk};
+ghost use Rattle.std.specs.Prelude.{◌≡◌, IfOk, IfSome};
 ghost use Rattle.std.specs.Arc.{arc_value};
-ghost use Rattle.hall_core.specs.Sharing.{full_in, is_plain};
 
 use coll_values::Full;
 use mpi_elems::Buffer;
@@ -17,15 +16,6 @@ pub enum Form {
     Plain(Full<Buffer>),
     /// It never changes again, and claims have it too.
     Shared(Arc<Full<Buffer>>),
-}
-
-impl Form {
-    /// Whether the hall alone has it.
-    pub fn is_plain(&self) -> bool
-        ensures { result ≡ is_plain self.now }
-    {
-        matches!(self, Form::Plain(_))
-    }
 }
 
 /// An instance that was filled. Contracts see the instance, in either form.
@@ -61,11 +51,6 @@ impl Instance {
         }
     }
 
-    /// Whether the hall alone has it. Contracts see no difference.
-    pub fn is_plain(&self) -> bool {
-        self.form.is_plain()
-    }
-
     /// The instance itself, in either form.
     pub fn full(&self) -> &Full<Buffer>
         ensures { result.now ≡ self.now }
@@ -76,33 +61,50 @@ impl Instance {
         }
     }
 
-    /// The shared form of it; the plain one again where memory runs out.
-    pub fn frozen(self, alloc: Global) -> Instance
-        ensures { result ≡ self }
+    /// A share of it, if it is shared already.
+    pub fn share(&self) -> Option<Result<Arc<Full<Buffer>>, NoMemory>>
+        ensures { IfSome result (λ share. IfOk share (λ shared. arc_value shared ≡ self.now)) }
     {
-        let Instance { form } = self;
-        match form {
-            Form::Shared(shared) => Instance {
-                form: Form::Shared(shared),
-            },
-            Form::Plain(full) => match Arc::new(alloc, full) {
-                Ok(shared) => Instance {
-                    form: Form::Shared(shared),
-                },
-                Err(refused) => Instance {
-                    form: Form::Plain(refused.value),
-                },
-            },
+        match &self.form {
+            Form::Plain(_) => None,
+            Form::Shared(shared) => Some(shared_again(shared)),
         }
     }
 
-    /// A share of it. A plain one has none to give.
-    pub fn share(&self) -> Result<Arc<Full<Buffer>>, NoMemory>
-        ensures { IfOk result (λ shared. arc_value shared ≡ self.now) }
+    /// The shared form of it, and a share; the plain one again where memory runs out.
+    pub fn shared(self, alloc: Global) -> (Instance, Result<Arc<Full<Buffer>>, NoMemory>)
+        ensures same { result.0 ≡ self }
+        ensures share { IfOk result.1 (λ shared. arc_value shared ≡ self) }
     {
-        match &self.form {
-            Form::Plain(_) => Err(NoMemory),
-            Form::Shared(shared) => Ok(Arc::try_clone(shared)?),
+        let Instance { form } = self;
+        match form {
+            Form::Shared(shared) => {
+                let share = shared_again(&shared);
+                let form = Form::Shared(shared);
+                (Instance { form }, share)
+            }
+            Form::Plain(full) => match Arc::new(alloc, full) {
+                Ok(shared) => {
+                    let share = shared_again(&shared);
+                    let form = Form::Shared(shared);
+                    (Instance { form }, share)
+                }
+                Err(refused) => {
+                    let (refused, full) = NoMemory::with_value(refused);
+                    let form = Form::Plain(full);
+                    (Instance { form }, Err(refused))
+                }
+            },
         }
+    }
+}
+
+// One share more.
+fn shared_again(shared: &Arc<Full<Buffer>>) -> Result<Arc<Full<Buffer>>, NoMemory>
+    ensures { IfOk result (λ again. arc_value again ≡ arc_value shared.now) }
+{
+    match Arc::try_clone(shared) {
+        Ok(again) => Ok(again),
+        Err(refused) => Err(NoMemory::from(refused)),
     }
 }

@@ -1,5 +1,5 @@
 //! What a posting states and gives.
-ghost use Rattle.std.specs.Prelude.{◌≡◌, ◌<◌, IsTrue, IsFalse};
+ghost use Rattle.std.specs.Prelude.{◌≡◌, ◌<◌, IsOk, IsErr};
 ghost use Rattle.run_model.specs.declared.refusal.Refusal.TheVariants.{NoMemory};
 ghost use Rattle.wall_labels.specs.declared.ids.TheConstants.{PROCESS_LIMIT};
 ghost use Rattle.run_model.specs.declared.reply.Reply.TheVariants.{Refused};
@@ -52,12 +52,17 @@ pub fn kept(alloc: Global, elements: Buffer, barred: bool) -> Buffer
 }
 
 /// The reply to a post that is not refused, by whether it was entered and by its word.
-pub fn answer(entered: bool, passed: bool, request: u64, label: Label) -> Reply
-    ensures counted { IsTrue entered → result ≡ accepted passed request label }
-    ensures wanted { IsFalse entered → result ≡ Refused NoMemory }
+pub fn answer(
+    entered: Result<(), wall_labels::NoMemory>,
+    passed: bool,
+    request: u64,
+    label: Label,
+) -> Reply
+    ensures counted { IsOk entered → result ≡ accepted passed request label }
+    ensures wanted { IsErr entered → result ≡ Refused NoMemory }
 {
-    if !entered {
-        return Reply::Refused(Refusal::NoMemory);
+    if let Err(refused) = entered {
+        return Reply::Refused(Refusal::from(refused));
     }
     if passed {
         Reply::Posted(request)

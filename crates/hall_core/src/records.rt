@@ -9,7 +9,7 @@ ghost use Rattle.coll_values.specs.Instances.{IsWhole};
 ghost use Rattle.run_model.specs.Comms.{processes};
 ghost use Rattle.run_model.specs.declared.reply.Reply.TheVariants.{Info};
 ghost use Rattle.hall_core.specs.Asking.{opened, requests_of};
-ghost use Rattle.hall_core.specs.Claims.{CanFinish, HoldsShare};
+ghost use Rattle.hall_core.specs.Claims.{CanFinish, HoldsShare, IsUngranted};
 ghost use Rattle.hall_core.specs.Settling.{IsShareOf, KeepsCount, settlement_at};
 
 use crate::claims::Claim;
@@ -81,11 +81,13 @@ impl Records {
         ensures gone { IfOk result (λ records. records.book.gone ≡ []) }
     {
         // Not by `?`, which would be proved at the whole types of the state and the records.
-        let Ok(requests) = first_requests(alloc, &policy) else {
-            return Err(NoMemory);
+        let requests = match first_requests(alloc, &policy) {
+            Ok(requests) => requests,
+            Err(refused) => return Err(refused),
         };
-        let Ok(post_state) = PostState::open(alloc, &policy) else {
-            return Err(NoMemory);
+        let post_state = match PostState::open(alloc, &policy) {
+            Ok(post_state) => post_state,
+            Err(refused) => return Err(refused),
         };
         Ok(Records {
             alloc,
@@ -209,7 +211,7 @@ impl Records {
                     self.close(it);
                     Reply::Delivered(delivery)
                 }
-                Err(_) => Reply::Refused(Refusal::NoMemory),
+                Err(refused) => Reply::Refused(Refusal::from(refused)),
             },
         }
     }
@@ -232,6 +234,7 @@ impl Records {
         match self.share(asked.comm, asked.k) {
             Share::Awaited => Claim::Done(Reply::Pending),
             Share::Given(full) => self.claim_shared(process, request, asked, full),
+            Share::Refused(refused) => Claim::Done(Reply::Refused(Refusal::from(refused))),
             Share::Withheld => self.claim_looked(process, request),
         }
     }
@@ -273,14 +276,14 @@ impl Records {
                 self.close_asked(process, request, asked);
                 claim
             }
-            Err(_) => Claim::Done(Reply::Refused(Refusal::NoMemory)),
+            Err(refused) => Claim::Done(Reply::Refused(Refusal::from(refused))),
         }
     }
 
-    // A claim of a request whose instance there is no share of: what a look finds, or no memory to
-    // share what was granted.
+    // A claim of an open request whose instance was filled, and not granted: what a look finds.
     fn claim_looked(&mut self, process: u32, request: u64) -> Claim
-        requires { IsHallView (view_in self.old) }
+        requires hall { IsHallView (view_in self.old) }
+        requires ungranted { IsUngranted (view_in self.old) process request }
         ensures keeps { Keeps self.old self.new }
         ensures steps { Steps (view_in self.old) (view_in self.new) process (ToTake request)
             (claim_reply result) }
@@ -295,7 +298,7 @@ impl Records {
                 self.close(it);
                 Claim::Done(reply)
             }
-            Due::Granted { .. } => Claim::Done(Reply::Refused(Refusal::NoMemory)),
+            Due::Granted { .. } => unreachable!(),
         }
     }
 }

@@ -93,6 +93,6 @@ pub fn run_calls(alloc: Global, policy: Policy, calls: Calls) -> Result<Replies,
             drop(hall);
             replies
         }
-        Err(_) => Err(NoMemory),
+        Err(refused) => Err(refused),
     }
 }

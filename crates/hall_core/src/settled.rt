@@ -1,6 +1,6 @@
 //! The places of instances, each with what came of it.
 ghost use Rattle.std.specs.Prelude.{◌≡◌, ◌<◌, ◌+◌, ◌^◌, ℕ, length, max, Some, None};
-ghost use Rattle.std.specs.Prelude.{OnOk, OnErr, IsTrue, unwrap_or};
+ghost use Rattle.std.specs.Prelude.{OnOk, OnErr, IfSome, IsTrue, unwrap_or};
 ghost use Rattle.std.specs.Option.{option_copied};
 ghost use Rattle.run_model.specs.declared.outcome.Outcome.TheVariants.{Granted};
 ghost use Rattle.hall_core.specs.Settling.{nothing, stands, place_at, open_at, HasPlace, one_more};
@@ -33,33 +33,35 @@ impl Drop for Settlement {
 }
 
 impl Settlement {
-    // Whether it is a grant whose instance no claim has shared yet. Contracts see no difference.
-    fn is_unshared_grant(&self) -> bool
-        ensures { IsTrue result → self.now.outcome ≡ Granted }
-    {
-        matches!(&self.outcome, Outcome::Granted) && self.full.is_plain()
-    }
-
-    // With its instance shared, where there is memory.
-    fn frozen(self, alloc: Global) -> Settlement
-        ensures { result ≡ self }
-    {
-        let Settlement { full, outcome } = self;
-        let full = full.frozen(alloc);
-        Settlement { full, outcome }
-    }
-
-    // A share of it, where it was granted and is shared.
-    fn share(&self) -> Share
-        ensures { IsShareOf (Some self.now) result }
+    // A share of it, or that there is none, where that can be said of it as it is kept.
+    fn share(&self) -> Option<Share>
+        ensures { IfSome result (IsShareOf (Some self.now)) }
     {
         if !matches!(&self.outcome, Outcome::Granted) {
-            return Share::Withheld;
+            return Some(Share::Withheld);
         }
         match self.full.share() {
-            Ok(full) => Share::Given(full),
-            Err(_) => Share::Withheld,
+            Some(Ok(full)) => Some(Share::Given(full)),
+            Some(Err(refused)) => Some(Share::Refused(refused)),
+            None => None,
         }
+    }
+
+    // With its instance shared, where it was granted and there is memory; and a share of it.
+    fn shared(self, alloc: Global) -> (Settlement, Share)
+        ensures same { result.0 ≡ self }
+        ensures share { IsShareOf (Some self) result.1 }
+    {
+        let Settlement { full, outcome } = self;
+        if !matches!(&outcome, Outcome::Granted) {
+            return (Settlement { full, outcome }, Share::Withheld);
+        }
+        let (full, share) = full.shared(alloc);
+        let share = match share {
+            Ok(shared) => Share::Given(shared),
+            Err(refused) => Share::Refused(refused),
+        };
+        (Settlement { full, outcome }, share)
     }
 }
 
@@ -70,7 +72,9 @@ pub enum Share {
     Awaited,
     /// It was granted: the instance, which never changes again.
     Given(Arc<Full<Buffer>>),
-    /// It was not granted, or there is no memory to share it.
+    /// It was granted, and there is no memory to share it.
+    Refused(NoMemory),
+    /// It was not granted.
     Withheld,
 }
 
@@ -105,38 +109,33 @@ impl Place {
     }
 }
 
-// Shares the instance at the place, if there is one that was granted, and memory.
-fn freeze_place(alloc: Global, place: &mut Place)
-    ensures { place.new ≡ place.old }
-{
-    let waits = match &place.settlement {
-        Some(settlement) => settlement.is_unshared_grant(),
-        None => false,
-    };
-    if waits {
-        share_in(alloc, place);
-    }
-}
-
 // A share of the instance at the place, if there is one that was granted, and memory.
 fn share_of(alloc: Global, place: &mut Place) -> Share
     ensures same { place.new ≡ place.old }
     ensures shares { IsShareOf place.old.settlement result }
 {
-    freeze_place(alloc, place);
-    match &place.settlement {
+    let share = match &place.settlement {
         Some(settlement) => settlement.share(),
-        None => Share::Awaited,
+        None => Some(Share::Awaited),
+    };
+    match share {
+        Some(share) => share,
+        None => first_share_of(alloc, place),
     }
 }
 
-// Shares the instance at the place, if there is one and memory for it.
-fn share_in(alloc: Global, place: &mut Place)
-    ensures { place.new ≡ place.old }
+// The same where the instance may not be shared yet.
+fn first_share_of(alloc: Global, place: &mut Place) -> Share
+    ensures same { place.new ≡ place.old }
+    ensures shares { IsShareOf place.old.settlement result }
 {
     match place.settlement.take() {
-        Some(settlement) => place.settlement = Some(settlement.frozen(alloc)),
-        None => {}
+        Some(settlement) => {
+            let (settlement, share) = settlement.shared(alloc);
+            place.settlement = Some(settlement);
+            share
+        }
+        None => Share::Awaited,
     }
 }
 

@@ -34,13 +34,19 @@ fn run_each(alloc: Global, policy: Policy, first: Calls, second: Calls) -> Resul
         × (length two.second ≡ length second)) }
 {
     // Policies are let go by a call: at the end of a block the proof would take them apart.
-    let Ok(copy) = policy.copy(alloc) else {
-        drop(policy);
-        return Err(NoMemory);
+    let copy = match policy.copy(alloc) {
+        Ok(copy) => copy,
+        Err(refused) => {
+            drop(policy);
+            return Err(refused);
+        }
     };
-    let Ok(first) = run_calls(alloc, policy, first) else {
-        drop(copy);
-        return Err(NoMemory);
+    let first = match run_calls(alloc, policy, first) {
+        Ok(first) => first,
+        Err(refused) => {
+            drop(copy);
+            return Err(refused);
+        }
     };
     let second = run_calls(alloc, copy, second)?;
     Ok(TwoRuns { first, second })

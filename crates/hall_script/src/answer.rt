@@ -100,7 +100,7 @@ fn answer_line<M: Answerer>(
         Ok(None) => Ok(()),
         Ok(Some(call)) => match answer_call(machine, call, text) {
             Ok(()) => Ok(()),
-            Err(_) => Err(LineFault::NoMemory),
+            Err(refused) => Err(LineFault::from(refused)),
         },
         Err(fault) => Err(fault),
     }

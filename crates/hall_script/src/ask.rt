@@ -86,8 +86,8 @@ pub fn read_ask(alloc: Global, policy: &Policy, line: &[u8]) -> Result<Ask, Line
     }
     let mut memory = Memory::new(alloc);
     let ask = next_ask(&mut memory, policy, &mut Parts::new(line, b' '));
-    if memory.ran_out() && ask.is_ok() {
-        return Err(LineFault::NoMemory);
+    if ask.is_ok() {
+        memory.end()?;
     }
     ask
 }

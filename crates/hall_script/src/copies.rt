@@ -86,9 +86,9 @@ fn write_copied(full: &Full<Buffer>, rank: u32, bytes: &mut Vec<u8>) -> Result<(
     let len = bytes.len();
     match put_copied(bytes, full, rank) {
         Ok(()) => Ok(()),
-        Err(_) => {
+        Err(refused) => {
             bytes.truncate(len);
-            Err(NoMemory)
+            Err(NoMemory::from(refused))
         }
     }
 }
@@ -112,8 +112,8 @@ fn write_folded(
             write_reply(policy, &Reply::Delivered(delivery), bytes)?;
             Ok(true)
         }
-        Err(_) => {
-            write_reply(policy, &Reply::Refused(Refusal::NoMemory), bytes)?;
+        Err(refused) => {
+            write_reply(policy, &Reply::Refused(Refusal::from(refused)), bytes)?;
             Ok(false)
         }
     }

@@ -4,7 +4,7 @@ ghost use Rattle.hall_script.specs.Devices.{used, IsRead, IsReadFault};
 
 use std::alloc::{AllocError, Global};
 use thiserror::Error;
-use wall_labels::Source;
+use wall_labels::{NoMemory, Source};
 
 /// Why a device was not read to its end.
 #[derive(Clone, Copy, Debug, PartialEq, Eq, Error)]
@@ -17,14 +17,25 @@ pub enum DeviceFault {
     NoMemory,
 }
 
+impl From<NoMemory> for DeviceFault {
+    ghost use Rattle.std.specs.Prelude.{◌≡◌};
+    ghost use Rattle.hall_script.specs.declared.device.DeviceFault.TheVariants.{NoMemory};
+
+    ghost from_gives = { λ _ e. e ≡ NoMemory };
+
+    fn from(_refused: NoMemory) -> DeviceFault {
+        DeviceFault::NoMemory
+    }
+}
+
 impl From<AllocError> for DeviceFault {
     ghost use Rattle.std.specs.Prelude.{◌≡◌};
     ghost use Rattle.hall_script.specs.declared.device.DeviceFault.TheVariants.{NoMemory};
 
     ghost from_gives = { λ _ e. e ≡ NoMemory };
 
-    fn from(_e: AllocError) -> DeviceFault {
-        DeviceFault::NoMemory
+    fn from(refused: AllocError) -> DeviceFault {
+        DeviceFault::from(NoMemory::from(refused))
     }
 }
 

@@ -201,10 +201,13 @@ pub(crate) fn values(
     ensures stays { memory.new ≡ false → memory.old ≡ false }
     ensures memory { result ≢ Err LineFault.NoMemory }
 {
-    let Ok(mut builder) = builder(memory.alloc(), elem_type, words.count()) else {
-        memory.run_out();
-        check_values(elem_type, words)?;
-        return Ok(Buffer::empty(memory.alloc(), elem_type));
+    let mut builder = match builder(memory.alloc(), elem_type, words.count()) {
+        Ok(builder) => builder,
+        Err(refused) => {
+            memory.run_out(refused);
+            check_values(elem_type, words)?;
+            return Ok(Buffer::empty(memory.alloc(), elem_type));
+        }
     };
     fill(&mut builder, words.take())?;
     finish(builder)

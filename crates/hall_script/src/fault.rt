@@ -2,6 +2,7 @@
 use coll_text::LineFault;
 use std::alloc::AllocError;
 use thiserror::Error;
+use wall_labels::NoMemory;
 
 /// Why a script was not answered, or not split, to its end.
 #[derive(Clone, Copy, Debug, PartialEq, Eq, Error)]
@@ -23,13 +24,24 @@ pub enum ScriptFault {
     NoMemory,
 }
 
+impl From<NoMemory> for ScriptFault {
+    ghost use Rattle.std.specs.Prelude.{◌≡◌};
+    ghost use Rattle.hall_script.specs.declared.fault.ScriptFault.TheVariants.{NoMemory};
+
+    ghost from_gives = { λ _ e. e ≡ NoMemory };
+
+    fn from(_refused: NoMemory) -> ScriptFault {
+        ScriptFault::NoMemory
+    }
+}
+
 impl From<AllocError> for ScriptFault {
     ghost use Rattle.std.specs.Prelude.{◌≡◌};
     ghost use Rattle.hall_script.specs.declared.fault.ScriptFault.TheVariants.{NoMemory};
 
     ghost from_gives = { λ _ e. e ≡ NoMemory };
 
-    fn from(_e: AllocError) -> ScriptFault {
-        ScriptFault::NoMemory
+    fn from(refused: AllocError) -> ScriptFault {
+        ScriptFault::from(NoMemory::from(refused))
     }
 }

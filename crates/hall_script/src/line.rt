@@ -185,8 +185,8 @@ pub fn read_call(alloc: Global, policy: &Policy, line: &[u8]) -> Result<Call, Li
     let mut memory = Memory::new(alloc);
     // A value that is taken out and put back would be copied once more at each line.
     let call = next_call(&mut memory, policy, &mut Parts::new(line, b' '));
-    if memory.ran_out() && call.is_ok() {
-        return Err(LineFault::NoMemory);
+    if call.is_ok() {
+        memory.end()?;
     }
     call
 }

@@ -208,9 +208,9 @@ pub fn write_reply(policy: &Policy, reply: &Reply, bytes: &mut Vec<u8>) -> Resul
     let len = bytes.len();
     match put_reply_line(bytes, policy, reply) {
         Ok(()) => Ok(()),
-        Err(_) => {
+        Err(refused) => {
             bytes.truncate(len);
-            Err(NoMemory)
+            Err(NoMemory::from(refused))
         }
     }
 }

@@ -43,6 +43,6 @@ pub fn replay<R: Source, W: Sink>(
     };
     match Hall::open(alloc, policy) {
         Ok(hall) => answered_from(alloc, hall, &script, sink),
-        Err(_) => Err(ScriptFault::NoMemory),
+        Err(refused) => Err(ScriptFault::from(refused)),
     }
 }

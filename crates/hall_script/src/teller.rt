@@ -222,7 +222,7 @@ fn put_told(text: &mut Vec<u8>, line: &[u8]) -> Result<(), NoMemory>
 {
     match text.extend_from_slice(line) {
         Ok(()) => Ok(()),
-        Err(_) => Err(NoMemory),
+        Err(refused) => Err(NoMemory::from(refused)),
     }
 }
 

@@ -24,7 +24,7 @@ use crate::pass::{PassTo, Passes, PassesTo};
 use crate::receipt::{Receipt, Receipts};
 use crate::rule::View;
 use crate::turns::Turns;
-use atomic_table::{Seat, Table};
+use atomic_table::{Refused, Seat, Table};
 use hall_core::{Act, Call, Hall, NoMemory, Posting, finish};
 use std::alloc::Global;
 use std::marker::Model;
@@ -130,8 +130,12 @@ impl<M: Machine + Drop> DoorTo<M> {
         let passes = Vec::with_capacity(alloc, count as usize)?;
         let mut slots = Vec::new(alloc);
         slots.push(Some(machine))?;
-        let Ok((table, maker)) = Table::new(alloc, &[0, 0], slots, key) else {
-            return Err(NoMemory);
+        let (table, maker) = match Table::new(alloc, &[0, 0], slots, key) {
+            Ok(made) => made,
+            Err(Refused { slots }) => {
+                drop(slots);
+                return Err(NoMemory::of_fault());
+            }
         };
         let door = DoorTo {
             turns: Turns { table },

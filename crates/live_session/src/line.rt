@@ -130,7 +130,7 @@ impl Unfinished {
         match read_ask(alloc, policy, trim(&self.bytes)) {
             Ok(ask) => Ok(Ok(ask)),
             Err(fault) => match fault {
-                LineFault::NoMemory => Err(NoMemory),
+                LineFault::NoMemory => Err(NoMemory::of_fault()),
                 _ => Ok(Err(BadLine::NoAsk(fault))),
             },
         }

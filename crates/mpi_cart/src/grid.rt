@@ -81,10 +81,9 @@ impl Grid {
         Ok(laid(alloc, dims, periods)?)
     }
 
-    /// An equal grid, or `NoMemory`. A grid of no dimensions takes no memory.
-    pub fn copy(&self, alloc: Global) -> Result<Grid, GridFault>
+    /// An equal grid. A grid of no dimensions takes no memory.
+    pub fn copy(&self, alloc: Global) -> Result<Grid, AllocError>
         ensures made { IfOk result (λ g. g ≡ self.now) }
-        ensures fault { IfErr result (λ f. f ≡ NoMemory) }
         ensures memory { IsErr result → 0 < length self.now.dims }
     {
         Ok(Grid {

@@ -38,7 +38,7 @@ impl From<wall_labels::NoMemory> for CommFault {
 impl From<AllocError> for CommFault {
     ghost from_gives = { λ _ fault. fault ≡ NoMemory };
 
-    fn from(_error: AllocError) -> CommFault {
-        CommFault::NoMemory
+    fn from(refused: AllocError) -> CommFault {
+        CommFault::from(wall_labels::NoMemory::from(refused))
     }
 }

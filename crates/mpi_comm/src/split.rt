@@ -13,6 +13,7 @@ use super::table::included;
 use super::values::Ask;
 use mpi_group::Group;
 use std::alloc::{AllocError, Global};
+use wall_labels::NoMemory;
 
 /// Whether a colour is negative.
 pub(crate) fn has_bad_colour(asks: &[Ask]) -> bool
@@ -68,7 +69,7 @@ pub(crate) fn split_groups(
     alloc: Global,
     group: &Group,
     asks: &[Ask],
-) -> Result<Vec<Group>, AllocError>
+) -> Result<Vec<Group>, NoMemory>
     requires { length asks.now ≡ length group.now }
     ensures { IfOk result (λ made. made.items ≡ split_groups asks.now group.now) }
 {

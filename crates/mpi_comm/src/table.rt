@@ -8,7 +8,7 @@ ghost use Rattle.mpi_comm.specs.Comms.{is_subgroup, subset_groups};
 use super::fault::CommFault;
 use super::split;
 use super::values::{Ask, CommCompare, CommInfo, Made};
-use mpi_group::{Group, GroupCompare, ranks_fault};
+use mpi_group::{Group, GroupCompare, GroupFault, ranks_fault};
 use std::alloc::{AllocError, Global};
 use std::marker::Model;
 use wall_labels::{NoMemory, ProcessId};
@@ -233,18 +233,19 @@ fn each_is_subgroup(group: &Group, lists: &[Vec<u32>]) -> bool
 }
 
 // The group of the members at these ranks.
-pub(crate) fn included(alloc: Global, group: &Group, ranks: &[u32]) -> Result<Group, AllocError>
+pub(crate) fn included(alloc: Global, group: &Group, ranks: &[u32]) -> Result<Group, NoMemory>
     requires { IsTrue (is_subgroup (length group.now) ranks.now) }
     ensures { IfOk result (λ part. part ≡ members_at group.now ranks.now) }
 {
     match group.incl(alloc, ranks) {
         Ok(part) => Ok(part),
-        Err(_) => Err(AllocError),
+        Err(GroupFault::NoMemory) => Err(NoMemory::of_fault()),
+        Err(_) => unreachable!(),
     }
 }
 
 // The groups of the members at the ranks of each list.
-fn all_included(alloc: Global, group: &Group, lists: &[Vec<u32>]) -> Result<Vec<Group>, AllocError>
+fn all_included(alloc: Global, group: &Group, lists: &[Vec<u32>]) -> Result<Vec<Group>, NoMemory>
     requires { IsTrue
         (list_all (is_subgroup (length group.now)) (map (λ list. list.items) lists.now)) }
     ensures { IfOk result (λ parts.

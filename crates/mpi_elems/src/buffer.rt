@@ -59,7 +59,7 @@ impl Buffer {
     {
         match room_for(alloc, ty, room) {
             Ok(cells) => Ok(Buffer { cells }),
-            Err(_) => Err(NoMemory),
+            Err(refused) => Err(NoMemory::from(refused)),
         }
     }
 
@@ -85,7 +85,7 @@ impl Buffer {
         }
         match buffer_of(alloc, ty, numbers) {
             Ok(buffer) => Ok(buffer),
-            Err(_) => Err(BufferFault::NoMemory),
+            Err(refused) => Err(BufferFault::from(refused)),
         }
     }
 

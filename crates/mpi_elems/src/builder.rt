@@ -48,7 +48,7 @@ impl BufferBuilder {
     {
         match room_for(alloc, ty, room) {
             Ok(cells) => Ok(BufferBuilder { cells, half: None }),
-            Err(_) => Err(NoMemory),
+            Err(refused) => Err(NoMemory::from(refused)),
         }
     }
 

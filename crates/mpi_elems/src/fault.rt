@@ -3,6 +3,7 @@ ghost use Rattle.std.specs.Prelude.{◌≡◌};
 
 use std::alloc::AllocError;
 use thiserror::Error;
+use wall_labels::NoMemory;
 
 /// Why numbers are no buffer of a type.
 #[derive(Clone, Copy, Debug, PartialEq, Eq, Error)]
@@ -18,12 +19,22 @@ pub enum BufferFault {
     NoMemory,
 }
 
+impl From<NoMemory> for BufferFault {
+    ghost use Rattle.mpi_elems.specs.declared.fault.BufferFault.TheVariants.{NoMemory};
+
+    ghost from_gives = { λ _ f. f ≡ NoMemory };
+
+    fn from(_: NoMemory) -> BufferFault {
+        BufferFault::NoMemory
+    }
+}
+
 impl From<AllocError> for BufferFault {
     ghost use Rattle.mpi_elems.specs.declared.fault.BufferFault.TheVariants.{NoMemory};
 
     ghost from_gives = { λ _ f. f ≡ NoMemory };
 
-    fn from(_: AllocError) -> BufferFault {
-        BufferFault::NoMemory
+    fn from(refused: AllocError) -> BufferFault {
+        BufferFault::from(NoMemory::from(refused))
     }
 }

@@ -18,10 +18,18 @@ pub enum GroupFault {
     NoMemory,
 }
 
+impl From<wall_labels::NoMemory> for GroupFault {
+    ghost from_gives = { λ _ fault. fault ≡ NoMemory };
+
+    fn from(_refused: wall_labels::NoMemory) -> GroupFault {
+        GroupFault::NoMemory
+    }
+}
+
 impl From<AllocError> for GroupFault {
     ghost from_gives = { λ _ fault. fault ≡ NoMemory };
 
-    fn from(_error: AllocError) -> GroupFault {
-        GroupFault::NoMemory
+    fn from(refused: AllocError) -> GroupFault {
+        GroupFault::from(wall_labels::NoMemory::from(refused))
     }
 }

@@ -26,7 +26,7 @@ pub(crate) fn tree_of(alloc: Global, bytes: &[u8]) -> Result<Option<Table>, NoMe
         Ok(table) => Ok(Some(table)),
         Err(error) => {
             if error.is_memory() {
-                Err(NoMemory)
+                Err(NoMemory::of_fault())
             } else {
                 Ok(None)
             }

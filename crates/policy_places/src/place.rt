@@ -121,7 +121,7 @@ pub fn place_of(alloc: Global, policy: &[u8]) -> Result<Option<Place>, NoMemory>
             drop(wall);
             Ok(None)
         }
-        Err(PolicyFault::NoMemory) => Err(NoMemory),
+        Err(PolicyFault::NoMemory) => Err(NoMemory::of_fault()),
         Err(fault) => Ok(Some(place_in(alloc, policy, fault)?)),
     }
 }

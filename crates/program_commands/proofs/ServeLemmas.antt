@@ -10,7 +10,7 @@ use Rattle.hall_turn.specs.Receipts.{Covered, Extent, IsHeadAt}
 use Rattle.live_book.specs.declared.unbooked.Unbooked.{Unbooked}
 use Rattle.live_book.specs.declared.unbooked.Unbooked.TheVariants as unbookeds
 use Rattle.hall_script.specs.Devices.{used}
-use Rattle.program_commands.specs.Endings.{Writes}
+use Rattle.program_commands.specs.Serving.{WritesBook}
 use Rattle.live_book.specs.Books.{HasCome, IsWritten, SinkValue, book_of, text_so_far, unless_cut}
 use Rattle.live_session.specs.declared.peer.Peer.{Peer}
 use Rattle.live_session.specs.declared.run.ServeFault.{ServeFault}
@@ -43,11 +43,11 @@ module _ {S O B : Type 0} (spoilt : B → ℕ) (kept : B → Option (List ℕ)) 
   -- the first line of the book was not written
   pub unopened : (old new : B) (back : Option B) (fault : Unbooked) →
       length peers ≡ processes wall → back ≡ Some new →
-      Writes (used spoilt kept old new) (first_line wall) (book_ending fault) →
+      WritesBook (used spoilt kept old new) (first_line wall) (book_ending fault) →
       IsUnserved spoilt kept wall peers (Some old) back (book_ending fault)
   unopened old new back unbookeds.Write same is w = (same, (old, new, refl, is, w))
   unopened old new back unbookeds.NoMemory same is w = (same, inr (old, new, refl, is, w))
-  unopened old new back unbookeds.TooLong same is w = (same, inr (old, new, refl, is, w))
+  unopened old new back unbookeds.TooLong same is w = (same, (old, new, refl, is, w))
 
 module _ {S O B : Type 0} (fails : S → ℕ) (left : S → Option (List ℕ))
     (heard : S → DeskLog) (failures : O → ℕ) (contents : O → Option (List ℕ))

@@ -6,7 +6,7 @@ use Rattle.wall_policy.specs.Policy.{ChineseWall}
 use Rattle.run_model.specs.Comms.{processes}
 use Rattle.run_model.specs.Runs.{Entry}
 use Rattle.audit_book.specs.Text.{header_words, line_of}
-use Rattle.hall_script.specs.Devices.{used}
+use Rattle.hall_script.specs.Devices.{used, Used, IsBegun}
 use Rattle.hall_turn.specs.Machines.{Stands}
 use Rattle.sha2.specs.Sha256.{sha256}
 use Rattle.hall_turn.specs.declared.head.Head.{Head}
@@ -25,7 +25,7 @@ use Rattle.live_session.specs.Sessions.{Stood}
 use Rattle.live_session.specs.Served.{ServedAll}
 use Rattle.program_commands.specs.declared.ending.Ending.{Ending}
 use Rattle.program_commands.specs.declared.ending.Ending.TheVariants.{Done, WriteFault, NoThread}
-use Rattle.program_commands.specs.declared.ending.Ending.TheVariants.{NoMemory, BadArguments}
+use Rattle.program_commands.specs.declared.ending.Ending.TheVariants.{NoMemory, BadArguments, Exhausted}
 use Rattle.program_commands.specs.declared.unready.Unready.{Unready}
 use Rattle.program_commands.specs.declared.unready.Unready.TheVariants as unreadies
 use Rattle.program_commands.specs.Endings.{Writes}
@@ -39,6 +39,11 @@ unready_line (unreadies.InUse path) = codes "in use: " ++ (path.now ++ codes "\n
 unready_line (unreadies.PipesUsed path) = codes "pipes used: " ++ (path.now ++ codes "\n")
 unready_line (unreadies.BookExists path) = codes "book exists: " ++ (path.now ++ codes "\n")
 
+-- the text of a book was written, or not as any text is not; or so far as it has its 2^64 entries
+abbrev pub WritesBook : {W : Type 0} → Used W → List ℕ → Ending → Type 0
+WritesBook writer bytes Exhausted = IsBegun writer bytes
+WritesBook writer bytes ending = Writes writer bytes ending
+
 -- how it ends where no session began
 abbrev pub serve_ending : ServeFault → Ending
 serve_ending serves.BadPeers = BadArguments
@@ -49,7 +54,7 @@ serve_ending serves.NoMemory = NoMemory
 abbrev pub book_ending : Unbooked → Ending
 book_ending unbookeds.Write = WriteFault
 book_ending unbookeds.NoMemory = NoMemory
-book_ending unbookeds.TooLong = NoMemory
+book_ending unbookeds.TooLong = Exhausted
 
 -- ---- the book
 
@@ -61,7 +66,7 @@ module _ {B : Type 0} (spoilt : B → ℕ) (kept : B → Option (List ℕ)) wher
   -- The writer came back, and it ended so at the first line of the book.
   abbrev pub IsUnopened : ChineseWall → (book back : Option B) → Ending → Type 0
   IsUnopened wall book back ending = (old : B) × (new : B) × (book ≡ Some old)
-      × (back ≡ Some new) × Writes (used spoilt kept old new) (first_line wall) ending
+      × (back ≡ Some new) × WritesBook (used spoilt kept old new) (first_line wall) ending
 
   -- No session began. There are not devices for each process, and no others; then the writer came
   -- back as it was. Or there are, and a thread or memory was refused, and the writer was let go; or
@@ -75,6 +80,8 @@ module _ {B : Type 0} (spoilt : B → ℕ) (kept : B → Option (List ℕ)) wher
       × ((back ≡ None) ⊎ IsUnopened wall book back NoMemory)
   IsUnserved wall peers book back WriteFault =
       (length peers ≡ processes wall) × IsUnopened wall book back WriteFault
+  IsUnserved wall peers book back Exhausted =
+      (length peers ≡ processes wall) × IsUnopened wall book back Exhausted
   IsUnserved wall peers book back ending = ⊥
 
 -- ---- all sessions
@@ -105,7 +112,7 @@ module _ {S O : Type 0} (fails : S → ℕ) (left : S → Option (List ℕ))
         (IsUnserved spoilt kept wall peers (Some old) back ending × (sessions ≡ []))
         ⊎ HaveEndedIn (StandsBehind (sink_value kept lasting spoilt old)) covered most wall peers
         sessions (λ run. (new : B) × (back ≡ Some new)
-        × Writes (used spoilt kept old new) (text_of wall run) ending)
+        × WritesBook (used spoilt kept old new) (text_of wall run) ending)
 
 -- ---- receipts
 

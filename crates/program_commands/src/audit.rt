@@ -89,7 +89,7 @@ pub(crate) fn judge(alloc: Global, wall: &Policy, book: &Book) -> Result<Finding
     match check_book(alloc, wall, book) {
         Ok(()) => Ok(Finding::Sound(book.len() as u64)),
         Err(BookFault::BadEntry(number)) => Ok(Finding::Unsound(number)),
-        Err(BookFault::NoMemory) => Err(NoMemory),
+        Err(BookFault::NoMemory) => Err(NoMemory::of_fault()),
     }
 }
 

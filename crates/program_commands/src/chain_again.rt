@@ -13,7 +13,7 @@ ghost use Rattle.program_commands.specs.ChainReports.{IsNotReadAgain, IsLongRun}
 
 use crate::audit::BOOK_LIMIT;
 use crate::report::Reading;
-use audit_book::{Book, read_book};
+use audit_book::{Book, ReadFault, read_book};
 use book_stream::{AuditFault, pass_source};
 use chain_file::Run;
 use chain_runs::{FileSystem, Past, RunFault, read_begun};
@@ -98,7 +98,8 @@ fn read_book_of<B: Source>(
     }
     match read_book(alloc, wall, &text) {
         Ok(entries) => Ok(Some(entries)),
-        Err(_) => Err(RunFault::NoMemory),
+        Err(ReadFault::NoMemory) => Err(RunFault::NoMemory),
+        Err(_) => unreachable!(),
     }
 }
 

@@ -1,5 +1,6 @@
 //! Tells what the runs of a chain gave, for a report on a later one.
 ghost use Rattle.std.specs.Prelude.{◌≡◌, ◌++◌, List, reverse, All, IfOk, IfErr, OnOk};
+ghost use Rattle.run_model.specs.Books.{IsSound};
 ghost use Rattle.run_model.specs.Known.{IsKnownEntry};
 ghost use Rattle.run_model.specs.Chains.{Link};
 ghost use Rattle.chain_runs.specs.Chains.{IsPast};
@@ -9,7 +10,7 @@ ghost use Rattle.program_commands.specs.ChainReports.{IsToldNext, IsNotToldNext}
 
 use crate::chain_again::read_short;
 use crate::report::Reading;
-use audit_book::after_book;
+use audit_book::{BookFault, after_book};
 use chain_file::Run;
 use chain_runs::{Broken, FileSystem, Past, RunFault, read_behind};
 use coll_text::{put, put_decimal};
@@ -33,29 +34,33 @@ fn put_given(
     reading: &Reading,
     number: u64,
 ) -> Result<(), NoMemory>
+    requires { IsSound reading.now.wall reading.now.entries.list }
     ensures { OnOk result (HasTold reading.now.wall reading.now.entries.list number
         lines.old.items lines.new.items) }
 {
     let text = match given_text(alloc, &reading.wall, &reading.entries, number) {
         Ok(text) => text,
-        Err(_) => return Err(NoMemory),
+        Err(BookFault::NoMemory) => return Err(NoMemory::of_fault()),
+        Err(BookFault::BadEntry(_)) => unreachable!(),
     };
     match lines.extend_from_slice(&text) {
         Ok(()) => Ok(()),
-        Err(_) => Err(NoMemory),
+        Err(refused) => Err(NoMemory::from(refused)),
     }
 }
 
 // What is known behind a run, where so many entries are in the books before it.
 fn behind(alloc: Global, reading: Reading, before: u64) -> Result<Past, RunFault>
-    requires { All (IsKnownEntry reading.wall) reading.entries.list }
+    requires known { All (IsKnownEntry reading.wall) reading.entries.list }
+    requires sound { IsSound reading.wall reading.entries.list }
     ensures past { IfOk result (GoesOnFrom reading.wall reading.entries.list before) }
     ensures fault { IfErr result (LacksRoom reading.wall reading.entries.list before) }
 {
     let Reading { wall, entries } = reading;
     let policy = match after_book(alloc, wall, &entries) {
         Ok(policy) => policy,
-        Err(_) => return Err(RunFault::NoMemory),
+        Err(BookFault::NoMemory) => return Err(RunFault::NoMemory),
+        Err(BookFault::BadEntry(_)) => unreachable!(),
     };
     match before.checked_add(entries.len() as u64) {
         Some(entries) => Ok(Past {
@@ -87,14 +92,14 @@ fn read_and_tell<'p, F: FileSystem<'p>>(
     match read_short(alloc, files, past, run) {
         Ok(Some(reading)) => match put_given(alloc, lines, &reading, number) {
             Ok(()) => behind(alloc, reading, past.entries),
-            Err(_) => {
+            Err(refused) => {
                 drop(reading);
-                Err(RunFault::NoMemory)
+                Err(RunFault::from(refused))
             }
         },
         Ok(None) => match put_long(lines, number) {
             Ok(()) => read_behind(alloc, files, past, run),
-            Err(_) => Err(RunFault::NoMemory),
+            Err(refused) => Err(RunFault::from(NoMemory::from(refused))),
         },
         Err(fault) => Err(fault),
     }

@@ -1,5 +1,6 @@
 //! Reports on the last run of a chain, over any devices.
 ghost use Rattle.std.specs.Prelude.{◌≡◌, ◌++◌, List, IfOk, IfErr, OnOk, Some};
+ghost use Rattle.run_model.specs.Books.{IsSound};
 ghost use Rattle.run_model.specs.Chains.{Link, IsChain};
 ghost use Rattle.chain_runs.specs.Runs.{IsChainAfter};
 ghost use Rattle.hall_script.specs.Devices.{used, IsUntouched};
@@ -18,6 +19,7 @@ use crate::devices::Streams;
 use crate::ending::{Ending, end};
 use crate::report::{Reading, write_both};
 use crate::text::write_text;
+use audit_book::BookFault;
 use book_stream::AuditFault;
 use chain_file::{ChainFile, Run};
 use chain_runs::{Broken, FileSystem, Past, RunFault};
@@ -127,21 +129,24 @@ fn put_section(text: &mut Vec<u8>, lines: &[u8]) -> Result<(), AllocError>
 // The text of a report, with what earlier runs gave behind it. (The book is sound, so the one fault
 // is that memory runs out.)
 fn last_text(alloc: Global, last: &Last) -> Result<Vec<u8>, NoMemory>
+    requires { IsSound last.now.reading.wall last.now.reading.entries.list }
     ensures { IfOk result (λ text. IsTextBehind last.now.given.items last.now.reading.wall
         last.now.reading.entries.list text.items) }
 {
     let mut text = match report_text(alloc, &last.reading.wall, &last.reading.entries) {
         Ok(text) => text,
-        Err(_) => return Err(NoMemory),
+        Err(BookFault::NoMemory) => return Err(NoMemory::of_fault()),
+        Err(BookFault::BadEntry(_)) => unreachable!(),
     };
     match put_section(&mut text, &last.given) {
         Ok(()) => Ok(text),
-        Err(_) => Err(NoMemory),
+        Err(refused) => Err(NoMemory::from(refused)),
     }
 }
 
 // Writes the report.
 fn write_last<O: Sink>(alloc: Global, last: &Last, out: &mut O) -> Ending<'static>
+    requires { IsSound last.now.reading.wall last.now.reading.entries.list }
     ensures { ReportsBehind last.now.given.items last.now.reading.wall
         last.now.reading.entries.list
         (used O.failures O.contents out.old out.new)
@@ -154,7 +159,7 @@ fn write_last<O: Sink>(alloc: Global, last: &Last, out: &mut O) -> Ending<'stati
             drop(text);
             ending
         }
-        Err(_) => Ending::NoMemory,
+        Err(refused) => Ending::from(refused),
     }
 }
 
@@ -165,6 +170,7 @@ fn write_last_page<O: Sink, W: Sink>(
     out: &mut O,
     file: &mut W,
 ) -> Ending<'static>
+    requires { IsSound last.now.reading.wall last.now.reading.entries.list }
     ensures { ReportsBehind last.now.given.items last.now.reading.wall
         last.now.reading.entries.list
         (used O.failures O.contents out.old out.new)
@@ -173,14 +179,15 @@ fn write_last_page<O: Sink, W: Sink>(
 {
     let text = match last_text(alloc, last) {
         Ok(text) => text,
-        Err(_) => return Ending::NoMemory,
+        Err(refused) => return Ending::from(refused),
     };
     let page = match report_page(alloc, &last.reading.wall, &last.reading.entries) {
         Ok(page) => page,
-        Err(_) => {
+        Err(BookFault::NoMemory) => {
             drop(text);
             return Ending::NoMemory;
         }
+        Err(BookFault::BadEntry(_)) => unreachable!(),
     };
     let ending = write_both(out, &text, file, &page);
     drop(text);

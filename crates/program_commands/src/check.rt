@@ -60,7 +60,7 @@ fn tell_meaning(alloc: Global, wall: &Policy) -> Told<'static>
             text,
             ending: Ending::Done,
         },
-        Err(_) => untold(alloc, Ending::NoMemory),
+        Err(refused) => untold(alloc, Ending::from(refused)),
     }
 }
 
@@ -83,7 +83,7 @@ fn tell_lines(alloc: Global, wall: &Policy, path: &str, script: &[u8]) -> Told<'
             let ending = script_ending(first);
             Told { text, ending }
         }
-        Err(_) => untold(alloc, Ending::NoMemory),
+        Err(refused) => untold(alloc, Ending::from(refused)),
     }
 }
 
@@ -127,7 +127,7 @@ fn tell_found(alloc: Global, wall: &Policy, path: &str, book: &[u8]) -> Told<'st
 {
     let found = match found_in(alloc, wall, book) {
         Ok(found) => found,
-        Err(_) => return untold(alloc, Ending::NoMemory),
+        Err(refused) => return untold(alloc, Ending::from(refused)),
     };
     let ending = found_ending(&found);
     let mut text = Vec::new(alloc);
@@ -135,7 +135,7 @@ fn tell_found(alloc: Global, wall: &Policy, path: &str, book: &[u8]) -> Told<'st
     drop(found);
     match put {
         Ok(()) => Told { text, ending },
-        Err(_) => untold(alloc, Ending::NoMemory),
+        Err(refused) => untold(alloc, Ending::from(refused)),
     }
 }
 

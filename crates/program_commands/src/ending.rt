@@ -7,7 +7,7 @@ ghost use Rattle.program_commands.specs.Endings.{line_fault_text, IsTold, cause_
 
 use coll_text::LineFault;
 use program_files::Cause;
-use wall_labels::{Failed, Sink, write_all};
+use wall_labels::{Failed, NoMemory, Sink, write_all};
 use wall_policy::PolicyFault;
 
 /// What is wrong with an earlier book. Lines and entries count from 1.
@@ -62,6 +62,17 @@ pub enum Ending<'a> {
     NoMemory,
     /// The words of the command line ask for nothing that the program does.
     BadArguments,
+}
+
+impl From<NoMemory> for Ending<'static> {
+    ghost use Rattle.std.specs.Prelude.{◌≡◌};
+    ghost use Rattle.program_commands.specs.declared.ending.Ending.TheVariants.{NoMemory};
+
+    ghost from_gives = { λ _ ending. ending ≡ NoMemory };
+
+    fn from(_refused: NoMemory) -> Ending<'static> {
+        Ending::NoMemory
+    }
 }
 
 fn status(ending: Ending) -> u8

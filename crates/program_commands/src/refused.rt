@@ -67,7 +67,7 @@ fn tell_line<O: Sink>(
             Ok(()) => Ending::BadPolicy(fault),
             Err(_) => Ending::WriteFault,
         },
-        Err(_) => Ending::NoMemory,
+        Err(refused) => Ending::from(refused),
     }
 }
 
@@ -113,6 +113,6 @@ pub(crate) fn tell_refused<O: Sink>(
     match place_of(alloc, policy.text) {
         Ok(Some(place)) => tell_place(alloc, policy, place, out),
         Ok(None) => Ending::BadPolicy(fault),
-        Err(_) => Ending::NoMemory,
+        Err(refused) => Ending::from(refused),
     }
 }

@@ -158,7 +158,7 @@ fn write_process<O: Sink>(
 {
     let text = match process_text(alloc, wall, rank) {
         Ok(text) => text,
-        Err(_) => return Err(WriteFault::NoMemory),
+        Err(refused) => return Err(WriteFault::from(refused)),
     };
     match write_all(out, &text) {
         Ok(()) => Ok(()),

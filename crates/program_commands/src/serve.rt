@@ -7,9 +7,9 @@ ghost use Rattle.hall_script.specs.Devices.{used};
 ghost use Rattle.hall_turn.specs.Machines.{Stands};
 ghost use Rattle.live_book.specs.Books.{StandsBehind};
 ghost use Rattle.live_book.specs.Writing.{sink_value};
-ghost use Rattle.program_commands.specs.Endings.{EndsSo, IsTold, Writes, error_line, status_of};
+ghost use Rattle.program_commands.specs.Endings.{EndsSo, IsTold, error_line, status_of};
 ghost use Rattle.program_commands.specs.Replaying.{text_of};
-ghost use Rattle.program_commands.specs.Serving.{ServeEnds, book_ending, first_line};
+ghost use Rattle.program_commands.specs.Serving.{ServeEnds, WritesBook, book_ending, first_line};
 ghost use Rattle.program_commands.specs.Serving.{ReceiptsCoverTheBook, serve_ending};
 
 use crate::ending::{Ending, end};
@@ -52,7 +52,7 @@ fn book_ending(fault: Unbooked) -> Ending<'static>
     match fault {
         Unbooked::Write => Ending::WriteFault,
         Unbooked::NoMemory => Ending::NoMemory,
-        Unbooked::TooLong => Ending::NoMemory,
+        Unbooked::TooLong => Ending::Exhausted,
     }
 }
 
@@ -106,8 +106,9 @@ where
         (used E.failures E.contents err.old err.new)
         result.status }
 {
-    let Ok(hall) = bookless_hall(alloc, policy) else {
-        return unserved(alloc, err, Ending::NoMemory, None);
+    let hall = match bookless_hall(alloc, policy) {
+        Ok(hall) => hall,
+        Err(refused) => return unserved(alloc, err, Ending::from(refused), None),
     };
     match serve_all::<_, _, _, _, Option<BookReceipt<B::Receipt>>>(
         rt, alloc, policy, hall, peers, most,
@@ -134,15 +135,15 @@ fn booked_hall<B: BookSink, K: Begun>(
 ) -> Result<BookedHall<B, K>, Unopened<B>>
     requires { K.begun ≡ sink_value B.contents B.lasting B.failures book }
     ensures stands { IfOk result (λ machine. StandsBehind K.begun policy.now machine []) }
-    ensures begun { IfErr result (λ unopened. Writes
+    ensures begun { IfErr result (λ unopened. WritesBook
         (used B.failures B.contents book unopened.sink)
         (first_line policy.now) (book_ending unopened.fault)) }
 {
     match policy.copy(alloc) {
         Ok(policy) => BookedHall::open(alloc, policy, book),
-        Err(_) => Err(Unopened {
+        Err(refused) => Err(Unopened {
             sink: book,
-            fault: Unbooked::NoMemory,
+            fault: Unbooked::from(refused),
         }),
     }
 }
@@ -152,7 +153,7 @@ fn finish<B: BookSink, K: Begun>(machine: BookedHall<B, K>) -> (B, Ending<'stati
     ensures { (book : B) (wall : ChineseWall) (run : List Entry) →
         K.begun ≡ sink_value B.contents B.lasting B.failures book →
         StandsBehind K.begun wall machine run →
-        Writes (used B.failures B.contents book result.0) (text_of wall run) result.1 }
+        WritesBook (used B.failures B.contents book result.0) (text_of wall run) result.1 }
 {
     let Finished { sink, written } = machine.finish();
     match written {

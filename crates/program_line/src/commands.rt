@@ -21,7 +21,7 @@ use std::rt::Files;
 use std::sync::Wait;
 use std::sync::ledger::Ledger;
 use std::thread::Threads;
-use wall_labels::Sink;
+use wall_labels::{NoMemory, Sink};
 
 /// The files of a server, as the words have them.
 #[derive(Drop)]
@@ -99,11 +99,17 @@ where
         Ok(Command::Version) => Performed::Ended(tell_version(streams)),
         Ok(Command::SealChain(path)) => match String::from_str(alloc, path) {
             Ok(path) => Performed::ToSealChain(path),
-            Err(_) => Performed::Ended(end(streams.err, Ending::NoMemory)),
+            Err(refused) => {
+                let ending = Ending::from(NoMemory::from(refused));
+                Performed::Ended(end(streams.err, ending))
+            }
         },
         Ok(Command::Serve(paths)) => match kept_paths(alloc, paths) {
             Ok(paths) => Performed::ToServe(paths),
-            Err(_) => Performed::Ended(end(streams.err, Ending::NoMemory)),
+            Err(refused) => {
+                let ending = Ending::from(NoMemory::from(refused));
+                Performed::Ended(end(streams.err, ending))
+            }
         },
         Err(fault) => Performed::Ended(end(streams.err, fault_ending(fault))),
     }
@@ -167,8 +173,9 @@ fn replay_files<'a, F: Files, P: Ledger, S: Ledger, B: Ledger, O: Sink, E: Sink>
         kept,
     } = files;
     let Streams { out, err } = streams;
-    let Ok(earlier) = listed(alloc, files, &paths.after) else {
-        return end(err, Ending::NoMemory);
+    let earlier = match listed(alloc, files, &paths.after) {
+        Ok(earlier) => earlier,
+        Err(refused) => return end(err, Ending::from(NoMemory::from(refused))),
     };
     let mut policy = unopened(files, paths.policy, policy);
     let mut script = unopened(files, paths.script, second);
@@ -209,8 +216,9 @@ where
         kept,
     } = files;
     let Streams { out, err } = streams;
-    let Ok(earlier) = listed(alloc, files, &paths.after) else {
-        return end(err, Ending::NoMemory);
+    let earlier = match listed(alloc, files, &paths.after) {
+        Ok(earlier) => earlier,
+        Err(refused) => return end(err, Ending::from(NoMemory::from(refused))),
     };
     let mut policy = unopened(files, paths.policy, policy);
     let mut script = unopened(files, paths.script, second);
@@ -248,8 +256,9 @@ fn audit_files<'a, F: Files, P: Ledger, S: Ledger, B: Ledger, O: Sink, E: Sink>(
         ..
     } = files;
     let Streams { out, err } = streams;
-    let Ok(earlier) = listed(alloc, files, &paths.after) else {
-        return end(err, Ending::NoMemory);
+    let earlier = match listed(alloc, files, &paths.after) {
+        Ok(earlier) => earlier,
+        Err(refused) => return end(err, Ending::from(NoMemory::from(refused))),
     };
     let mut policy = unopened(files, paths.policy, policy);
     let mut book = unopened(files, paths.book, second);
@@ -281,8 +290,9 @@ fn seal_files<'a, F: Files, P: Ledger, S: Ledger, B: Ledger, O: Sink, E: Sink>(
         kept,
     } = files;
     let Streams { out, err } = streams;
-    let Ok(earlier) = listed(alloc, files, &paths.after) else {
-        return end(err, Ending::NoMemory);
+    let earlier = match listed(alloc, files, &paths.after) {
+        Ok(earlier) => earlier,
+        Err(refused) => return end(err, Ending::from(NoMemory::from(refused))),
     };
     let mut policy = unopened(files, paths.policy, policy);
     let mut cut = unopened(files, paths.book, second);

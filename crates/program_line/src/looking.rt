@@ -14,7 +14,7 @@ use program_words::{CheckPaths, ReportPaths, VERSION, usage_text};
 use std::alloc::Global;
 use std::rt::Files;
 use std::sync::ledger::Ledger;
-use wall_labels::Sink;
+use wall_labels::{NoMemory, Sink};
 
 /// A report on the files that the words name.
 pub(crate) fn report_files<'a, F: Files, P: Ledger, S: Ledger, B: Ledger, O: Sink, E: Sink>(
@@ -36,8 +36,9 @@ pub(crate) fn report_files<'a, F: Files, P: Ledger, S: Ledger, B: Ledger, O: Sin
         kept,
     } = files;
     let Streams { out, err } = streams;
-    let Ok(earlier) = listed(alloc, files, &paths.after) else {
-        return end(err, Ending::NoMemory);
+    let earlier = match listed(alloc, files, &paths.after) {
+        Ok(earlier) => earlier,
+        Err(refused) => return end(err, Ending::from(NoMemory::from(refused))),
     };
     let mut policy = unopened(files, paths.policy, policy);
     let mut book = unopened(files, paths.book, second);
@@ -76,8 +77,9 @@ pub(crate) fn check_files<'a, F: Files, P: Ledger, S: Ledger, B: Ledger, O: Sink
 {
     let CountedFiles { files, policy, .. } = files;
     let Streams { out, err } = streams;
-    let Ok(earlier) = listed(alloc, files, &paths.after) else {
-        return end(err, Ending::NoMemory);
+    let earlier = match listed(alloc, files, &paths.after) {
+        Ok(earlier) => earlier,
+        Err(refused) => return end(err, Ending::from(NoMemory::from(refused))),
     };
     let mut policy = unopened(files, paths.policy, policy);
     let script = listed_if_any(files, paths.script);

@@ -11,6 +11,7 @@ use program_files::Count;
 use std::alloc::Global;
 use std::rt::Files;
 use std::sync::ledger::Ledger;
+use wall_labels::NoMemory;
 use wall_policy::Policy;
 
 /// Reads a server's policy file and then its earlier books, the oldest first, and gives the policy
@@ -31,11 +32,13 @@ pub fn served_policy<'a, F: Files, L: Ledger>(
         let earlier = listed_kind {F = F} {File = F.File} {Dir = F.Dir} in
         IfErr result (IsNoServedPolicy policies earlier (live_files paths.now)) }
 {
-    let Ok(after) = texts(alloc, &paths.after) else {
-        return Err(Ending::NoMemory);
+    let after = match texts(alloc, &paths.after) {
+        Ok(after) => after,
+        Err(refused) => return Err(Ending::from(NoMemory::from(refused))),
     };
-    let Ok(earlier) = listed(alloc, files, &after) else {
-        return Err(Ending::NoMemory);
+    let earlier = match listed(alloc, files, &after) {
+        Ok(earlier) => earlier,
+        Err(refused) => return Err(Ending::from(NoMemory::from(refused))),
     };
     let mut policy = unopened(files, &paths.policy, failures);
     read_wall_after(alloc, &mut policy, earlier)

@@ -8,25 +8,24 @@ use std::alloc::{AllocError, Global};
 use std::test::Fail;
 
 /// A policy of so many processes without a home.
-pub(crate) fn crowd(alloc: Global, processes: u32) -> Result<String, AllocError> {
+pub(crate) fn crowd(alloc: Global, processes: u32) -> Result<String, Fail> {
     let mut text = String::from_str(alloc, "version = 1\n")?;
     for process in 0..processes {
-        write!(text, "[[process]]\nname = \"p{process}\"\n").map_err(|_| AllocError)?;
+        write!(text, "[[process]]\nname = \"p{process}\"\n")?;
     }
     Ok(text)
 }
 
 /// Each of so many processes starts a barrier and takes it; and what is written of that.
-fn barriers(alloc: Global, processes: u32) -> Result<(String, String), AllocError> {
+fn barriers(alloc: Global, processes: u32) -> Result<(String, String), Fail> {
     let mut script = String::new(alloc);
     let mut said = String::new(alloc);
     for process in 0..processes {
-        write!(script, "post {process} 0 barrier\ntake {process} 0\n").map_err(|_| AllocError)?;
+        write!(script, "post {process} 0 barrier\ntake {process} 0\n")?;
         write!(
             said,
             "rank {process} p{process}\nposted 0\ndelivered none\n"
-        )
-        .map_err(|_| AllocError)?;
+        )?;
     }
     Ok((script, said))
 }
@@ -47,7 +46,7 @@ fn as_many_processes_run_as_there_can_be(rt: HostRuntime) -> Result<(), Fail> {
 }
 
 /// So many classes of two datasets each, and two processes that are at home in the last two.
-pub(crate) fn pairs(alloc: Global, classes: u32, homes: [u32; 2]) -> Result<String, AllocError> {
+pub(crate) fn pairs(alloc: Global, classes: u32, homes: [u32; 2]) -> Result<String, Fail> {
     let mut text = String::from_str(alloc, "version = 1\n")?;
     for class in 0..classes {
         let low = 2 * u64::from(class);
@@ -55,15 +54,13 @@ pub(crate) fn pairs(alloc: Global, classes: u32, homes: [u32; 2]) -> Result<Stri
         write!(
             text,
             "[[class]]\nname = \"k{class}\"\ndatasets = [\"d{low}\", \"d{high}\"]\n"
-        )
-        .map_err(|_| AllocError)?;
+        )?;
     }
     for home in homes {
         write!(
             text,
             "[[process]]\nname = \"of{home}\"\nhome = \"d{home}\"\n"
-        )
-        .map_err(|_| AllocError)?;
+        )?;
     }
     Ok(text)
 }

@@ -1,12 +1,10 @@
 -- What `parse` reads of digits, and what is no number of calls.
-use Rattle.std.proofs.Common.{◌≡◌, ℕ, ◌^◌, ◌<◌, ◌≤◌, Bool, true, false, not, ◌&&◌, leb, List, length}
-use Rattle.std.proofs.Common.{Some, None, Option, Result, Ok, Err, refl, arith, rules, IfOk, IfErr, if◌then◌else◌}
+use Rattle.std.proofs.Common.{◌≡◌, ℕ, ◌<◌, ◌≤◌, true, List, length}
+use Rattle.std.proofs.Common.{Result, Ok, Err, arith, rules, IfOk, IfErr}
 use Rattle.std.specs.List.{list_all}
-use Rattle.std.specs.Prelude.{nat_le}
 use Rattle.std.specs.Str.Parse.{ParsesUnsigned}
-use Rattle.std.proofs.lemmas.Bool.{leb-true}
 use Rattle.std.proofs.lemmas.Str.Parse.{IsNumeralModel, numerals_by_fold, parse_digits}
-use Rattle.program_words.specs.Number.{is_digit, value_after, calls_said}
+use Rattle.program_words.specs.Number.{is_digit, value_after}
 
 own : IsNumeralModel (λ ds. list_all is_digit ds ≡ true) (value_after 0)
 own = numerals_by_fold _ (search rules) value_after (search rules)

@@ -59,12 +59,16 @@ keeping_app name path = with_rule (files_app name path) (optional_rule (codes "b
 abbrev pub chained_app : Text → Text → App
 chained_app name path = with_rule (keeping_app name path) (optional_rule (codes "chain"))
 
+-- NAME POLICY BOOK, both of which may be missing
+abbrev pub pair_app : Text → App
+pair_app name =
+    let with_policy = with_rule (new_app name) (new_rule (codes "policy")) in
+    with_rule with_policy (new_rule (codes "book"))
+
 -- NAME POLICY BOOK [--after BOOK].., or NAME --chain CHAIN
 abbrev pub book_app : Text → App
 book_app name =
-    let with_policy = with_rule (new_app name) (new_rule (codes "policy")) in
-    let with_book = with_rule with_policy (new_rule (codes "book")) in
-    let with_after = with_rule with_book (repeated_rule (codes "after")) in
+    let with_after = with_rule (pair_app name) (repeated_rule (codes "after")) in
     with_rule with_after (optional_rule (codes "chain"))
 
 -- serve POLICY DIR [--after BOOK].. [--book FILE] [--chain CHAIN] [--sync] [--calls N] [--times]
@@ -78,9 +82,7 @@ serve_app =
 -- seal POLICY BOOK OUT [--after BOOK].., or seal --chain CHAIN
 abbrev pub seal_app : App
 seal_app =
-    let with_policy = with_rule (new_app (codes "seal")) (new_rule (codes "policy")) in
-    let with_book = with_rule with_policy (new_rule (codes "book")) in
-    let with_out = with_rule with_book (new_rule (codes "out")) in
+    let with_out = with_rule (pair_app (codes "seal")) (new_rule (codes "out")) in
     let with_after = with_rule with_out (repeated_rule (codes "after")) in
     with_rule with_after (optional_rule (codes "chain"))
 

@@ -5,7 +5,7 @@ ghost use Rattle.clap.specs.declared.builder.Command.TheViews.{out-Command as fi
 ghost use Rattle.program_words.specs.Grammar.{required_rule, repeated_rule, files_app, keeping_app};
 ghost use Rattle.program_words.specs.Grammar.{plain_app, flag_rule, serve_app, seal_app, check_app};
 ghost use Rattle.program_words.specs.Grammar.{report_app, usage_app, program_app, chained_app};
-ghost use Rattle.program_words.specs.Grammar.{book_app};
+ghost use Rattle.program_words.specs.Grammar.{pair_app, book_app};
 
 use clap::{Arg, ArgAction};
 use std::alloc::{AllocError, Global};
@@ -43,9 +43,7 @@ fn plain_command<'a>(
     ensures app { IfOk result (λ c. app_of c ≡ plain_app name.now file.now) }
     ensures globals { IfOk result (λ c. (fields_of c).has_globals ≡ false) }
 {
-    let Ok(command) = clap::Command::new(alloc, name).arg(required(alloc, "policy")) else {
-        return Err(AllocError);
-    };
+    let command = clap::Command::new(alloc, name).arg(required(alloc, "policy"))?;
     command.arg(required(alloc, file))
 }
 
@@ -58,9 +56,7 @@ fn files_command<'a>(
     ensures app { IfOk result (λ c. app_of c ≡ files_app name.now file.now) }
     ensures globals { IfOk result (λ c. (fields_of c).has_globals ≡ false) }
 {
-    let Ok(command) = plain_command(alloc, name, file) else {
-        return Err(AllocError);
-    };
+    let command = plain_command(alloc, name, file)?;
     command.arg(repeated(alloc, "after"))
 }
 
@@ -73,9 +69,7 @@ fn keeping_command<'a>(
     ensures app { IfOk result (λ c. app_of c ≡ keeping_app name.now path.now) }
     ensures globals { IfOk result (λ c. (fields_of c).has_globals ≡ false) }
 {
-    let Ok(command) = files_command(alloc, name, path) else {
-        return Err(AllocError);
-    };
+    let command = files_command(alloc, name, path)?;
     command.arg(Arg::new(alloc, "book").long("book"))
 }
 
@@ -88,10 +82,17 @@ fn chained_command<'a>(
     ensures app { IfOk result (λ c. app_of c ≡ chained_app name.now path.now) }
     ensures globals { IfOk result (λ c. (fields_of c).has_globals ≡ false) }
 {
-    let Ok(command) = keeping_command(alloc, name, path) else {
-        return Err(AllocError);
-    };
+    let command = keeping_command(alloc, name, path)?;
     command.arg(Arg::new(alloc, "chain").long("chain"))
+}
+
+// The command `NAME POLICY BOOK`, both of which may be missing.
+fn pair_command<'a>(alloc: Global, name: &'a str) -> Result<clap::Command<'a>, AllocError>
+    ensures app { IfOk result (λ c. app_of c ≡ pair_app name.now) }
+    ensures globals { IfOk result (λ c. (fields_of c).has_globals ≡ false) }
+{
+    let command = clap::Command::new(alloc, name).arg(Arg::new(alloc, "policy"))?;
+    command.arg(Arg::new(alloc, "book"))
 }
 
 // The command `NAME POLICY BOOK [--after BOOK]..`, or `NAME --chain CHAIN`.
@@ -99,15 +100,8 @@ fn book_command<'a>(alloc: Global, name: &'a str) -> Result<clap::Command<'a>, A
     ensures app { IfOk result (λ c. app_of c ≡ book_app name.now) }
     ensures globals { IfOk result (λ c. (fields_of c).has_globals ≡ false) }
 {
-    let Ok(command) = clap::Command::new(alloc, name).arg(Arg::new(alloc, "policy")) else {
-        return Err(AllocError);
-    };
-    let Ok(command) = command.arg(Arg::new(alloc, "book")) else {
-        return Err(AllocError);
-    };
-    let Ok(command) = command.arg(repeated(alloc, "after")) else {
-        return Err(AllocError);
-    };
+    let command = pair_command(alloc, name)?;
+    let command = command.arg(repeated(alloc, "after"))?;
     command.arg(Arg::new(alloc, "chain").long("chain"))
 }
 
@@ -117,15 +111,9 @@ fn serve_command<'a>(alloc: Global) -> Result<clap::Command<'a>, AllocError>
     ensures app { IfOk result (λ c. app_of c ≡ serve_app) }
     ensures globals { IfOk result (λ c. (fields_of c).has_globals ≡ false) }
 {
-    let Ok(command) = chained_command(alloc, "serve", "pipes") else {
-        return Err(AllocError);
-    };
-    let Ok(command) = command.arg(flag(alloc, "sync")) else {
-        return Err(AllocError);
-    };
-    let Ok(command) = command.arg(Arg::new(alloc, "calls").long("calls")) else {
-        return Err(AllocError);
-    };
+    let command = chained_command(alloc, "serve", "pipes")?;
+    let command = command.arg(flag(alloc, "sync"))?;
+    let command = command.arg(Arg::new(alloc, "calls").long("calls"))?;
     command.arg(flag(alloc, "times"))
 }
 
@@ -134,18 +122,9 @@ fn seal_command<'a>(alloc: Global) -> Result<clap::Command<'a>, AllocError>
     ensures app { IfOk result (λ c. app_of c ≡ seal_app) }
     ensures globals { IfOk result (λ c. (fields_of c).has_globals ≡ false) }
 {
-    let Ok(command) = clap::Command::new(alloc, "seal").arg(Arg::new(alloc, "policy")) else {
-        return Err(AllocError);
-    };
-    let Ok(command) = command.arg(Arg::new(alloc, "book")) else {
-        return Err(AllocError);
-    };
-    let Ok(command) = command.arg(Arg::new(alloc, "out")) else {
-        return Err(AllocError);
-    };
-    let Ok(command) = command.arg(repeated(alloc, "after")) else {
-        return Err(AllocError);
-    };
+    let command = pair_command(alloc, "seal")?;
+    let command = command.arg(Arg::new(alloc, "out"))?;
+    let command = command.arg(repeated(alloc, "after"))?;
     command.arg(Arg::new(alloc, "chain").long("chain"))
 }
 
@@ -154,15 +133,9 @@ fn check_command<'a>(alloc: Global) -> Result<clap::Command<'a>, AllocError>
     ensures app { IfOk result (λ c. app_of c ≡ check_app) }
     ensures globals { IfOk result (λ c. (fields_of c).has_globals ≡ false) }
 {
-    let Ok(command) = clap::Command::new(alloc, "check").arg(required(alloc, "policy")) else {
-        return Err(AllocError);
-    };
-    let Ok(command) = command.arg(Arg::new(alloc, "script")) else {
-        return Err(AllocError);
-    };
-    let Ok(command) = command.arg(Arg::new(alloc, "book").long("book")) else {
-        return Err(AllocError);
-    };
+    let command = clap::Command::new(alloc, "check").arg(required(alloc, "policy"))?;
+    let command = command.arg(Arg::new(alloc, "script"))?;
+    let command = command.arg(Arg::new(alloc, "book").long("book"))?;
     command.arg(repeated(alloc, "after"))
 }
 
@@ -172,9 +145,7 @@ fn report_command<'a>(alloc: Global) -> Result<clap::Command<'a>, AllocError>
     ensures app { IfOk result (λ c. app_of c ≡ report_app) }
     ensures globals { IfOk result (λ c. (fields_of c).has_globals ≡ false) }
 {
-    let Ok(command) = book_command(alloc, "report") else {
-        return Err(AllocError);
-    };
+    let command = book_command(alloc, "report")?;
     command.arg(Arg::new(alloc, "html").long("html"))
 }
 
@@ -187,11 +158,11 @@ fn usage_command<'a>(alloc: Global) -> Result<clap::Command<'a>, AllocError>
 }
 
 // The command `version`.
-fn version_command<'a>(alloc: Global) -> Result<clap::Command<'a>, AllocError>
-    ensures app { IfOk result (λ c. app_of c ≡ new_app (codes "version")) }
-    ensures globals { IfOk result (λ c. (fields_of c).has_globals ≡ false) }
+fn version_command<'a>(alloc: Global) -> clap::Command<'a>
+    ensures app { app_of result ≡ new_app (codes "version") }
+    ensures globals { (fields_of result).has_globals ≡ false }
 {
-    Ok(clap::Command::new(alloc, "version"))
+    clap::Command::new(alloc, "version")
 }
 
 // The command line with one command more, if that could be made.
@@ -218,29 +189,13 @@ pub(crate) fn program_command<'a>(alloc: Global) -> Result<clap::Command<'a>, Al
     let program = clap::Command::new(alloc, "consortium")
         .no_binary_name(true)
         .subcommand_required(true);
-    let Ok(program) = with_command(program, chained_command(alloc, "replay", "script")) else {
-        return Err(AllocError);
-    };
-    let Ok(program) = with_command(program, chained_command(alloc, "run", "script")) else {
-        return Err(AllocError);
-    };
-    let Ok(program) = with_command(program, book_command(alloc, "audit")) else {
-        return Err(AllocError);
-    };
-    let Ok(program) = with_command(program, serve_command(alloc)) else {
-        return Err(AllocError);
-    };
-    let Ok(program) = with_command(program, seal_command(alloc)) else {
-        return Err(AllocError);
-    };
-    let Ok(program) = with_command(program, check_command(alloc)) else {
-        return Err(AllocError);
-    };
-    let Ok(program) = with_command(program, report_command(alloc)) else {
-        return Err(AllocError);
-    };
-    let Ok(program) = with_command(program, usage_command(alloc)) else {
-        return Err(AllocError);
-    };
-    with_command(program, version_command(alloc))
+    let program = with_command(program, chained_command(alloc, "replay", "script"))?;
+    let program = with_command(program, chained_command(alloc, "run", "script"))?;
+    let program = with_command(program, book_command(alloc, "audit"))?;
+    let program = with_command(program, serve_command(alloc))?;
+    let program = with_command(program, seal_command(alloc))?;
+    let program = with_command(program, check_command(alloc))?;
+    let program = with_command(program, report_command(alloc))?;
+    let program = with_command(program, usage_command(alloc))?;
+    with_command(program, Ok(version_command(alloc)))
 }

@@ -549,8 +549,9 @@ fn matches_of<'a>(alloc: Global, words: &'a [&'a str]) -> Result<ArgMatches<'a>,
     ensures bad { result ≡ Err ArgFault.BadArguments →
         fault_of program_app (map (λ w. w.now) words.entry.now) ≢ [] }
 {
-    let Ok(command) = program_command(alloc) else {
-        return Err(ArgFault::NoMemory);
+    let command = match program_command(alloc) {
+        Ok(command) => command,
+        Err(refused) => return Err(ArgFault::from(refused)),
     };
     match command.try_get_matches_from(words) {
         Ok(matches) => Ok(matches),
@@ -587,6 +588,6 @@ pub fn read_words<'a>(alloc: Global, words: &'a [&'a str]) -> Result<Command<'a>
     match command {
         Ok(Some(command)) => Ok(command),
         Ok(None) => Err(ArgFault::BadArguments),
-        Err(_) => Err(ArgFault::NoMemory),
+        Err(refused) => Err(ArgFault::from(refused)),
     }
 }

@@ -3,7 +3,7 @@ use Rattle.std.proofs.Common.{◌≡◌, ℕ, zero, suc, ◌+◌, ◌*◌, ◌^�
 use Rattle.std.proofs.Common.{Bool, ◌||◌, ◌&&◌, true, false, true≢false}
 use Rattle.std.proofs.Common.{List, [], ◌∷◌, ◌++◌, length, map, take, get_or, reverse}
 use Rattle.std.proofs.Common.{append_assoc, append-nil}
-use Rattle.std.proofs.Common.{vec_items, vec_capacity, Global, refl, sym, ap, subst, subst₂}
+use Rattle.std.proofs.Common.{vec_items, vec_capacity, Global, refl, sym, ap, subst}
 use Rattle.std.proofs.Common.{◌∙◌, arith}
 use Rattle.std.specs.List.{All, AllZip, sum_by, fold, list_all, list_any}
 use Rattle.std.proofs.Math.Nat.{mul-le-mul_left, mul-add}

@@ -1,9 +1,7 @@
 -- What waiting for a request does to a pass. (Own rules.)
 use Rattle.std.specs.Prelude.{◌≡◌, ℕ, ◌+◌, ◌^◌, ◌<◌, ◌≤◌, Bool, true, false, List, [], ◌∷◌, ◌++◌}
 use Rattle.std.specs.Prelude.{length, max, replicate}
-use Rattle.run_model.specs.declared.call.Act.{Act}
 use Rattle.run_model.specs.declared.call.Act.TheVariants.{Take}
-use Rattle.run_model.specs.declared.reply.Reply.{Reply}
 use Rattle.run_model.specs.declared.reply.Reply.TheVariants.{Posted, Barred, Pending, Delivered}
 use Rattle.run_model.specs.declared.reply.Reply.TheVariants.{NewComm, NullComm, Denied, NoRoom}
 use Rattle.run_model.specs.declared.reply.Reply.TheVariants.{Info, Refused}

@@ -16,7 +16,7 @@ use wall_policy::Policy;
 
 /// A growth of memory was refused, and no thread was started. Only [`prepare`] makes one.
 #[derive(Drop)]
-pub(crate) struct MemoryRefused(());
+pub(crate) struct MemoryRefused(NoMemory);
 
 /// Room for what the threads of a run give back.
 #[derive(Drop)]
@@ -145,20 +145,29 @@ pub(crate) fn prepare(
     ensures room { IfOk result (λ ready. HasRoomFor (vec_len ready.jobs) ready.room) }
 {
     // What is wide is handed to `drop` on each way out, which takes it apart in one call.
-    let Ok(shares) = share_out(alloc, scripts.into_vec()) else {
-        drop(policy);
-        return Err(MemoryRefused(()));
+    let shares = match share_out(alloc, scripts.into_vec()) {
+        Ok(shares) => shares,
+        Err(refused) => {
+            drop(policy);
+            return Err(MemoryRefused(refused));
+        }
     };
-    let Ok((stage, room)) = make_room(alloc, shares.all.len(), holds) else {
-        drop(shares);
-        drop(policy);
-        return Err(MemoryRefused(()));
+    let (stage, room) = match make_room(alloc, shares.all.len(), holds) {
+        Ok(made) => made,
+        Err(refused) => {
+            drop(shares);
+            drop(policy);
+            return Err(MemoryRefused(NoMemory::from(refused)));
+        }
     };
-    let Ok((door, passes)) = Door::open(alloc, policy) else {
-        drop(room);
-        drop(stage);
-        drop(shares);
-        return Err(MemoryRefused(()));
+    let (door, passes) = match Door::open(alloc, policy) {
+        Ok(opened) => opened,
+        Err(refused) => {
+            drop(room);
+            drop(stage);
+            drop(shares);
+            return Err(MemoryRefused(refused));
+        }
     };
     let Shares { all, jobs } = shares;
     let jobs = deal(passes, all, jobs);

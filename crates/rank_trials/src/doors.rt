@@ -563,10 +563,10 @@ fn keep_no_pages<R: Files + AllocGlobal + Abort>(rt: &R, policy: &Policy) -> Res
 }
 
 /// The text of a policy of as many processes as there can be, each without a home.
-fn crowd(alloc: Global) -> Result<String, AllocError> {
+fn crowd(alloc: Global) -> Result<String, Fail> {
     let mut text = String::from_str(alloc, "version = 1\n")?;
     for process in 0..256u32 {
-        write!(text, "[[process]]\nname = \"p{process}\"\n").map_err(|_| AllocError)?;
+        write!(text, "[[process]]\nname = \"p{process}\"\n")?;
     }
     Ok(text)
 }

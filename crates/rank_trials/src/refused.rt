@@ -11,7 +11,7 @@ use crate::doors::{close, finished, is_delivered, is_posted, is_ready, is_refuse
 use crate::parties::label;
 use crate::{doors, ranks};
 use coll_routes::{Own, Signature};
-use hall_core::{Act, NoMemory, Posting, Refusal, Reply};
+use hall_core::{Act, Posting, Refusal, Reply};
 use hall_turn::{Claim, Claimed, Door, Pass, Passes};
 use mpi_elems::{Buffer, ElemType};
 use rank_run::{Acts, OpenGate, Run, RunFault, RunReplies, Scripts, run_ranks};
@@ -50,7 +50,7 @@ fn open<R: Abort>(rt: &R, alloc: Global, policy: Policy) -> (Door, Passes)
     ensures policy { result.0.policy ≡ policy }
     ensures passes { All (λ pass. pass.door ≡ result.0) result.1.items }
 {
-    let Ok(copy) = again!(policy.copy(alloc), NoMemory) else {
+    let Ok(copy) = again!(policy.copy(alloc), _) else {
         panic!(rt; "no copy")
     };
     match Door::open(alloc, policy) {

@@ -10,6 +10,7 @@ use crate::rows::{put_held, put_way};
 use book_report::{Book, BookFault, Row, Way, held};
 use coll_text::{put, put_decimal};
 use std::alloc::{AllocError, Global};
+use wall_labels::NoMemory;
 use wall_policy::Policy;
 
 // The run, the entry, and who holds what since.
@@ -96,6 +97,6 @@ pub fn given_text(
     let mut text = Vec::new(alloc);
     match put_gains(&mut text, policy, book, run, &rows) {
         Ok(()) => Ok(text),
-        Err(_) => Err(BookFault::NoMemory),
+        Err(refused) => Err(BookFault::from(NoMemory::from(refused))),
     }
 }

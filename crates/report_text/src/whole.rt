@@ -72,6 +72,6 @@ pub fn report_text(alloc: Global, policy: &Policy, book: &Book) -> Result<Vec<u8
     let found = Findings::of(alloc, policy, book)?;
     match text_of(alloc, policy, book, &found) {
         Ok(text) => Ok(text),
-        Err(_) => Err(BookFault::NoMemory),
+        Err(refused) => Err(BookFault::from(refused)),
     }
 }

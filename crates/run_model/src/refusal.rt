@@ -1,4 +1,7 @@
 //! Why calls are refused.
+ghost use Rattle.std.specs.Prelude.{◌≡◌};
+
+use wall_labels::NoMemory;
 
 /// Why a call is refused. A post is refused by the first of them that holds, in this order; the
 /// posts before it alone decide those up to `Mismatch`. A take is refused by `NoSuchRequest`.
@@ -34,4 +37,14 @@ pub enum Refusal {
     NoMemory,
     /// The request was never given, or was taken.
     NoSuchRequest,
+}
+
+impl From<NoMemory> for Refusal {
+    ghost use Rattle.run_model.specs.declared.refusal.Refusal.TheVariants.{NoMemory};
+
+    ghost from_gives = { λ _ refusal. refusal ≡ NoMemory };
+
+    fn from(_refused: NoMemory) -> Refusal {
+        Refusal::NoMemory
+    }
 }

@@ -3,6 +3,7 @@
 use coll_routes::Stated;
 use coll_values::Full;
 use run_model::Outcome;
+use wall_labels::NoMemory;
 
 /// What entering a post tells. Instances of a communicator count from 0.
 #[derive(Drop)]
@@ -22,6 +23,7 @@ pub enum Entered<X> {
 /// A post for which memory ran out, with what was handed in.
 #[derive(Drop)]
 pub struct Unentered<X> {
+    pub refused: NoMemory,
     pub stated: Stated,
     pub part: X,
 }

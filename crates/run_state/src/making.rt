@@ -223,8 +223,9 @@ fn copies(alloc: Global, grid: &Grid, number: usize) -> Result<Vec<Grid>, NoMemo
 {
     let mut grids = Vec::with_capacity(alloc, number)?;
     for _ in 0..number {
-        let Ok(copy) = grid.copy(alloc) else {
-            return Err(NoMemory);
+        let copy = match grid.copy(alloc) {
+            Ok(copy) => copy,
+            Err(refused) => return Err(NoMemory::from(refused)),
         };
         grids.push(copy)?;
     }
@@ -248,7 +249,7 @@ fn refused(fault: CommFault) -> Result<Outcome, NoMemory>
 {
     match fault {
         CommFault::NoRoom => Ok(Outcome::NoRoom),
-        CommFault::NoMemory => Err(NoMemory),
+        CommFault::NoMemory => Err(NoMemory::of_fault()),
         _ => unreachable!(),
     }
 }
@@ -260,7 +261,7 @@ fn laid_grid(alloc: Global, dims: &[u32], periods: &[bool], size: u32) -> Result
 {
     match Grid::new(alloc, dims, periods, size) {
         Ok(grid) => Ok(grid),
-        Err(GridFault::NoMemory) => Err(NoMemory),
+        Err(GridFault::NoMemory) => Err(NoMemory::of_fault()),
         Err(_) => unreachable!(),
     }
 }

@@ -46,7 +46,7 @@ pub fn part_of(alloc: Global, grid: &Grid, keep: &[bool]) -> Result<Grid, NoMemo
 {
     match grid.sub(alloc, keep) {
         Ok(part) => Ok(part),
-        Err(GridFault::NoMemory) => Err(NoMemory),
+        Err(GridFault::NoMemory) => Err(NoMemory::of_fault()),
         Err(_) => unreachable!(),
     }
 }

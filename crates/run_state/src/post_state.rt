@@ -215,7 +215,11 @@ impl<X: Drop> PostState<X> {
         let _ = self.comms.group(seat.meeting.comm);
         let met = seat.meeting;
         match steps::prepare(&mut self.comms, &mut self.pending, met, &stated) {
-            Err(_) => Err(Unentered { stated, part }),
+            Err(refused) => Err(Unentered {
+                refused,
+                stated,
+                part,
+            }),
             Ok(made) => {
                 faultless_signatures_fit();
                 let passed = !stated.barred;

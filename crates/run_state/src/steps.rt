@@ -40,7 +40,7 @@ pub fn world(alloc: Global, processes: u32) -> Result<Group, NoMemory>
     let list = all_processes(alloc, processes)?;
     match Group::from_list(alloc, &list) {
         Ok(group) => Ok(group),
-        Err(GroupFault::NoMemory) => Err(NoMemory),
+        Err(GroupFault::NoMemory) => Err(NoMemory::of_fault()),
         Err(_) => unreachable!(),
     }
 }

@@ -76,7 +76,7 @@ fn fault_in(
             }))
         }
         // Of a call that was not kept, its process is not known.
-        Err(LineFault::NoMemory) => Err(NoMemory),
+        Err(LineFault::NoMemory) => Err(NoMemory::of_fault()),
         Err(fault) => {
             let column = column_of(alloc, policy, line, fault)? as u64;
             Ok(Some(Found {

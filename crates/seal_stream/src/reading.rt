@@ -74,7 +74,7 @@ fn judge(
     policy: &Policy,
     reading: &mut Reading,
     entry: &Entry,
-    lacks: bool,
+    memory: Memory,
 ) -> Option<BookFault>
     requires reading { IsReading policy.now reading.old }
     requires form { HasForm entry.now }
@@ -83,7 +83,7 @@ fn judge(
         (line : Word) → reading.old.entries ≡ length entries → length entries < 2 ^ 62 →
         SayEntries policy.now lines entries →
         IsJudged policy.now AtEntry reading.old.audit reading.old.fault lines kept entries →
-        (lacks ≡ false → entry.now ≡ said) →
+        (memory ≡ false → entry.now ≡ said) →
         IsJudged policy.now AtEntry reading.new.audit result (lines ++ line ∷ [])
         (kept_if (is_none result) kept line) (entries ++ said ∷ []) }
     ensures stage { reading.new.stage ≡ reading.old.stage }
@@ -92,8 +92,9 @@ fn judge(
     if let Some(fault) = reading.fault {
         return Some(fault);
     }
-    if lacks {
-        return Some(BookFault::NoMemory);
+    match memory.end() {
+        Ok(()) => {}
+        Err(refused) => return Some(BookFault::from(refused)),
     }
     step(
         alloc,
@@ -143,17 +144,17 @@ fn take_entry(
     policy: &Policy,
     reading: &mut Reading,
     entry: &Entry,
-    lacks: bool,
+    memory: Memory,
 ) -> bool
     requires reading { IsReading policy.now reading.old }
     requires form { HasForm entry.now }
     requires stage { reading.old.stage ≡ AtEntry }
     requires few { reading.old.entries < 2 ^ 62 }
-    ensures { (said : BookEntry) (line : Word) → (lacks ≡ false → entry.now ≡ said) →
+    ensures { (said : BookEntry) (line : Word) → (memory ≡ false → entry.now ≡ said) →
         line_at policy.now line ≡ Ok (Said said) →
         GoesOn policy.now reading.old reading.new line result }
 {
-    reading.fault = judge(alloc, policy, reading, entry, lacks);
+    reading.fault = judge(alloc, policy, reading, entry, memory);
     reading.entries += 1;
     reading.fault.is_none()
 }
@@ -196,7 +197,7 @@ fn take_behind(
     let mut memory = Memory::new(alloc);
     match read_line(&mut memory, policy, line) {
         Ok(Line::Said(entry)) => {
-            let is_kept = take_entry(alloc, policy, reading, &entry, memory.ran_out());
+            let is_kept = take_entry(alloc, policy, reading, &entry, memory);
             drop(entry);
             Ok(is_kept)
         }

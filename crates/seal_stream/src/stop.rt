@@ -1,6 +1,7 @@
 //! Why no seal was made of what a source gives.
 
 use thiserror::Error;
+use wall_labels::NoMemory;
 
 /// Why no seal was made of what a source gives, or was not written to its end. Lines and entries
 /// count from 1.
@@ -30,4 +31,15 @@ pub enum SealStop {
     Write,
     #[error("out of memory")]
     NoMemory,
+}
+
+impl From<NoMemory> for SealStop {
+    ghost use Rattle.std.specs.Prelude.{◌≡◌};
+    ghost use Rattle.seal_stream.specs.declared.stop.SealStop.TheVariants.{NoMemory};
+
+    ghost from_gives = { λ _ e. e ≡ NoMemory };
+
+    fn from(_refused: NoMemory) -> SealStop {
+        SealStop::NoMemory
+    }
 }

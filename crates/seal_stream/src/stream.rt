@@ -70,8 +70,9 @@ fn finish<W: Sink>(policy: &Policy, writer: &mut Writer, sealed: &mut W) -> Resu
         Some(BookFault::NoMemory) => return Err(SealStop::NoMemory),
         None => {}
     }
-    let Ok(number) = put_tail(policy, &writer.reading, &mut writer.pending) else {
-        return Err(SealStop::NoMemory);
+    let number = match put_tail(policy, &writer.reading, &mut writer.pending) {
+        Ok(number) => number,
+        Err(refused) => return Err(SealStop::from(refused)),
     };
     match send(&mut writer.pending, sealed) {
         Ok(()) => Ok(number),
@@ -106,8 +107,9 @@ pub fn seal_source<B: Source, W: Sink>(
     let _ = policy.processes();
     a_text_has_one_seal();
     cut_books_have_their_seal();
-    let Ok(mut writer) = begin(alloc, policy) else {
-        return Err(SealStop::NoMemory);
+    let mut writer = match begin(alloc, policy) {
+        Ok(writer) => writer,
+        Err(refused) => return Err(SealStop::from(refused)),
     };
     match read_whole(alloc, policy, book, &mut writer, sealed) {
         Ok(()) => {}

@@ -52,11 +52,11 @@ fn put_line<W: Sink>(line: &[u8], pending: &mut Vec<u8>, sealed: &mut W) -> Resu
 {
     match pending.extend_from_slice(line) {
         Ok(()) => {}
-        Err(_) => return Err(SealStop::NoMemory),
+        Err(refused) => return Err(SealStop::from(NoMemory::from(refused))),
     }
     match pending.push(b'\n') {
         Ok(()) => {}
-        Err(_) => return Err(SealStop::NoMemory),
+        Err(refused) => return Err(SealStop::from(NoMemory::from(refused))),
     }
     match send_long(pending, sealed) {
         Ok(()) => Ok(()),
@@ -113,7 +113,7 @@ fn take_one<W: Sink>(
     }
     match writer.line.begin(next) {
         Ok(()) => Ok(()),
-        Err(_) => Err(SealStop::NoMemory),
+        Err(refused) => Err(SealStop::from(NoMemory::from(refused))),
     }
 }
 
@@ -140,7 +140,7 @@ pub(crate) fn take_in<W: Sink>(
     };
     match writer.line.add(first) {
         Ok(()) => {}
-        Err(_) => return Err(SealStop::NoMemory),
+        Err(refused) => return Err(SealStop::from(NoMemory::from(refused))),
     }
     while let Some(part) = parts.next_long() {
         match take_one(alloc, policy, writer, part, sealed) {

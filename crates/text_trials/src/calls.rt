@@ -156,7 +156,7 @@ fn posted(
     own: Own,
     label: Label,
     numbers: &[i128],
-) -> Result<Act, NoMemory>
+) -> Result<Act, Fail>
     ensures { IfOk result
         (λ act. (wall : ChineseWall) → IsKnownLabel wall label → HasKnownLabel wall act) }
 {
@@ -168,34 +168,34 @@ fn posted(
             label,
             elements,
         })),
-        Err(_) => {
+        Err(fault) => {
             drop(sig);
-            Err(NoMemory)
+            Err(Fail::from(fault))
         }
     }
 }
 
-fn group(alloc: Global, ranks: &[u32]) -> Result<Signature, NoMemory> {
+fn group(alloc: Global, ranks: &[u32]) -> Result<Signature, Fail> {
     match ranks.to_vec(alloc) {
         Ok(ranks) => Ok(Signature::Create {
             ranks: Numbers::from(ranks),
         }),
-        Err(_) => Err(NoMemory),
+        Err(refused) => Err(Fail::from(refused)),
     }
 }
 
 /// A count of 1,024 for each of four, in a vector that had so many.
-fn roomy_counts(alloc: Global, room: usize) -> Result<Own, NoMemory> {
+fn roomy_counts(alloc: Global, room: usize) -> Result<Own, Fail> {
     match vec![in alloc; 1024u32; room] {
         Ok(mut counts) => {
             counts.truncate(4);
             Ok(Own::Counts(Numbers::from(counts)))
         }
-        Err(_) => Err(NoMemory),
+        Err(refused) => Err(Fail::from(NoMemory::from(refused))),
     }
 }
 
-fn act(alloc: Global, doing: Doing, label: Label) -> Result<Act, NoMemory>
+fn act(alloc: Global, doing: Doing, label: Label) -> Result<Act, Fail>
     ensures { IfOk result
         (λ act. (wall : ChineseWall) → IsKnownLabel wall label → HasKnownLabel wall act) }
 {
@@ -219,7 +219,7 @@ fn act(alloc: Global, doing: Doing, label: Label) -> Result<Act, NoMemory>
         }
         Group(ranks) => match group(alloc, ranks) {
             Ok(sig) => posted(alloc, 0, sig, Own::Plain, label, &[]),
-            Err(_) => Err(NoMemory),
+            Err(fail) => Err(fail),
         },
         Share(comm, _, numbers) => {
             let sig = Signature::Allgather {
@@ -253,7 +253,7 @@ fn act(alloc: Global, doing: Doing, label: Label) -> Result<Act, NoMemory>
                 label,
                 numbers,
             ),
-            Err(_) => Err(NoMemory),
+            Err(fail) => Err(fail),
         },
         Take(request) => Ok(Act::Take(request)),
         Info(comm) => Ok(Act::Info(comm)),
@@ -271,13 +271,13 @@ fn label_name(doing: &Doing) -> &'static str {
     }
 }
 
-fn call(alloc: Global, policy: &Policy, process: u32, doing: Doing) -> Result<Call, NoMemory>
+fn call(alloc: Global, policy: &Policy, process: u32, doing: Doing) -> Result<Call, Fail>
     ensures { IfOk result (λ call. HasKnownLabel policy.now call.act) }
 {
     let label = label(policy, label_name(&doing));
     match act(alloc, doing, label) {
         Ok(act) => Ok(Call { process, act }),
-        Err(_) => Err(NoMemory),
+        Err(fail) => Err(fail),
     }
 }
 
@@ -345,24 +345,16 @@ fn reply_text(alloc: Global, reply: &Reply) -> Result<String, AllocError> {
     }
 }
 
-fn push_call(
-    alloc: Global,
-    policy: &Policy,
-    calls: &mut Vec<Call>,
-    line: &Line,
-) -> Result<(), NoMemory>
+fn push_call(alloc: Global, policy: &Policy, calls: &mut Vec<Call>, line: &Line) -> Result<(), Fail>
     requires { HaveKnownLabels policy.now calls.old.items }
     ensures { HaveKnownLabels policy.now calls.new.items }
 {
     match call(alloc, policy, line.0, line.1) {
         Ok(call) => match calls.push(call) {
             Ok(()) => Ok(()),
-            Err(refused) => {
-                drop(refused);
-                Err(NoMemory)
-            }
+            Err(refused) => Err(Fail::from(NoMemory::from(refused))),
         },
-        Err(_) => Err(NoMemory),
+        Err(fail) => Err(fail),
     }
 }
 
@@ -372,7 +364,7 @@ fn push_calls(
     policy: &Policy,
     calls: &mut Vec<Call>,
     lines: &[Line],
-) -> Result<(), NoMemory>
+) -> Result<(), Fail>
     requires { HaveKnownLabels policy.now calls.old.items }
     ensures { HaveKnownLabels policy.now calls.new.items }
 {
@@ -383,26 +375,26 @@ fn push_calls(
 }
 
 /// The calls of the lines.
-pub(crate) fn calls(alloc: Global, policy: &Policy, lines: &[Line]) -> Result<Calls, NoMemory>
+pub(crate) fn calls(alloc: Global, policy: &Policy, lines: &[Line]) -> Result<Calls, Fail>
     ensures { IfOk result (λ calls. HaveKnownLabels policy.now calls) }
 {
     let mut calls = Vec::new(alloc);
     match push_calls(alloc, policy, &mut calls, lines) {
         Ok(()) => Ok(Calls::from(calls)),
-        Err(_) => {
+        Err(fail) => {
             drop(calls);
-            Err(NoMemory)
+            Err(fail)
         }
     }
 }
 
-fn is_told(alloc: Global, reply: &Reply, text: &str) -> Result<bool, NoMemory> {
+fn is_told(alloc: Global, reply: &Reply, text: &str) -> Result<bool, Fail> {
     let told = reply_text(alloc, reply)?;
     Ok(told.as_str() == text)
 }
 
 /// Whether there is a reply for each line, and it is the line's.
-pub(crate) fn told(alloc: Global, lines: &[Line], replies: &Replies) -> Result<bool, NoMemory> {
+pub(crate) fn told(alloc: Global, lines: &[Line], replies: &Replies) -> Result<bool, Fail> {
     if replies.as_slice().len() != lines.len() {
         return Ok(false);
     }
@@ -415,7 +407,7 @@ pub(crate) fn told(alloc: Global, lines: &[Line], replies: &Replies) -> Result<b
 }
 
 /// Whether `run_calls` answers the calls as the lines say.
-fn told_all(alloc: Global, policy: Policy, calls: Calls, lines: &[Line]) -> Result<bool, NoMemory>
+fn told_all(alloc: Global, policy: Policy, calls: Calls, lines: &[Line]) -> Result<bool, Fail>
     requires { HaveKnownLabels policy calls }
 {
     match run_calls(alloc, policy, calls) {
@@ -424,21 +416,22 @@ fn told_all(alloc: Global, policy: Policy, calls: Calls, lines: &[Line]) -> Resu
             drop(replies);
             same
         }
-        Err(_) => Err(NoMemory),
+        Err(refused) => Err(Fail::from(refused)),
     }
 }
 
 /// Whether `run_calls` answers the lines' calls as they say. The text is a policy: it is read
 /// wherever memory was given.
-pub(crate) fn runs(alloc: Global, policy: &str, lines: &[Line]) -> Result<bool, NoMemory> {
-    let Ok(policy) = read_policy(alloc, policy.as_bytes()) else {
-        return Err(NoMemory);
+pub(crate) fn runs(alloc: Global, policy: &str, lines: &[Line]) -> Result<bool, Fail> {
+    let policy = match read_policy(alloc, policy.as_bytes()) {
+        Ok(policy) => policy,
+        Err(fault) => return Err(Fail::from(fault)),
     };
     match calls(alloc, &policy, lines) {
         Ok(calls) => told_all(alloc, policy, calls, lines),
-        Err(_) => {
+        Err(fail) => {
             drop(policy);
-            Err(NoMemory)
+            Err(fail)
         }
     }
 }
@@ -464,15 +457,16 @@ fn friends_split_and_get_numbers(rt: HostRuntime) -> Result<(), Fail> {
 }
 
 /// Whether it holds in a hall that is opened with the policy.
-pub(crate) fn at_a_hall<F: FnOnce(Global, &mut Hall) -> Result<bool, NoMemory> + Drop>(
+pub(crate) fn at_a_hall<F: FnOnce(Global, &mut Hall) -> Result<bool, Fail> + Drop>(
     alloc: Global,
     policy: &str,
     holds: F,
-) -> Result<bool, NoMemory>
+) -> Result<bool, Fail>
     requires { F.IsAlwaysCallable holds }
 {
-    let Ok(policy) = read_policy(alloc, policy.as_bytes()) else {
-        return Err(NoMemory);
+    let policy = match read_policy(alloc, policy.as_bytes()) {
+        Ok(policy) => policy,
+        Err(fault) => return Err(Fail::from(fault)),
     };
     match Hall::open(alloc, policy) {
         Ok(mut hall) => {
@@ -480,12 +474,12 @@ pub(crate) fn at_a_hall<F: FnOnce(Global, &mut Hall) -> Result<bool, NoMemory> +
             drop(hall);
             held
         }
-        Err(_) => Err(NoMemory),
+        Err(refused) => Err(Fail::from(refused)),
     }
 }
 
 /// Whether the hall answers the line's call as the line says.
-pub(crate) fn answers(alloc: Global, hall: &mut Hall, line: &Line) -> Result<bool, NoMemory> {
+pub(crate) fn answers(alloc: Global, hall: &mut Hall, line: &Line) -> Result<bool, Fail> {
     match call(alloc, hall.policy(), line.0, line.1) {
         Ok(call) => {
             let reply = hall.apply(call);
@@ -493,11 +487,11 @@ pub(crate) fn answers(alloc: Global, hall: &mut Hall, line: &Line) -> Result<boo
             drop(reply);
             same
         }
-        Err(_) => Err(NoMemory),
+        Err(fail) => Err(fail),
     }
 }
 
-fn answers_all(alloc: Global, hall: &mut Hall, lines: &[Line]) -> Result<bool, NoMemory> {
+fn answers_all(alloc: Global, hall: &mut Hall, lines: &[Line]) -> Result<bool, Fail> {
     for line in lines {
         if !answers(alloc, hall, line)? {
             return Ok(false);
@@ -518,7 +512,7 @@ fn holds(hall: &Hall, process: u32, dataset: u32) -> bool {
 }
 
 /// The histories and the book after a denial: n0 has had access to nothing.
-fn keeps_a_denial(alloc: Global, hall: &mut Hall) -> Result<bool, NoMemory> {
+fn keeps_a_denial(alloc: Global, hall: &mut Hall) -> Result<bool, Fail> {
     let told = answers_all(alloc, hall, DENIED_TO_ALL)?;
     let held = holds(hall, 0, 0) && !holds(hall, 3, 0) && !holds(hall, 1, 0);
     Ok(told && held && hall.book().len() == 5)
@@ -530,7 +524,7 @@ fn histories_and_book_of_a_denial(rt: HostRuntime) -> Result<(), Fail> {
     Ok(())
 }
 
-fn takes_256_requests(alloc: Global, hall: &mut Hall) -> Result<bool, NoMemory> {
+fn takes_256_requests(alloc: Global, hall: &mut Hall) -> Result<bool, Fail> {
     for _ in 0..255 {
         answers(alloc, hall, &(0, Cast(0, 0, 0, "public", &[]), "any"))?;
     }
@@ -563,7 +557,7 @@ fn ready_rank(claim: &Claim) -> Option<u32> {
 type Claimed = (u32, u64, Option<u32>, &'static str);
 
 /// Whether the claim is ready with the line's rank, or not ready, and comes to the line's reply.
-fn claims(alloc: Global, hall: &mut Hall, line: &Claimed) -> Result<bool, NoMemory> {
+fn claims(alloc: Global, hall: &mut Hall, line: &Claimed) -> Result<bool, Fail> {
     let claim = hall.claim(line.0, line.1);
     let same = ready_rank(&claim) == line.2;
     let reply = finish(claim);
@@ -572,7 +566,7 @@ fn claims(alloc: Global, hall: &mut Hall, line: &Claimed) -> Result<bool, NoMemo
     Ok(told? && same)
 }
 
-fn claims_all(alloc: Global, hall: &mut Hall, lines: &[Claimed]) -> Result<bool, NoMemory> {
+fn claims_all(alloc: Global, hall: &mut Hall, lines: &[Claimed]) -> Result<bool, Fail> {
     for line in lines {
         if !claims(alloc, hall, line)? {
             return Ok(false);
@@ -589,7 +583,7 @@ const CLAIMED: &[Claimed] = &[
     (1, 1, None, "refused NoSuchRequest"),
 ];
 
-fn claims_gathered(alloc: Global, hall: &mut Hall) -> Result<bool, NoMemory> {
+fn claims_gathered(alloc: Global, hall: &mut Hall) -> Result<bool, Fail> {
     if !answers_all(alloc, hall, GATHERED)? {
         return Ok(false);
     }
@@ -614,7 +608,7 @@ pub(crate) const GROUPS: &[(&[u32], &str)] = &[
 ];
 
 /// Whether all four processes create one communicator of each group.
-fn creates_all(alloc: Global, hall: &mut Hall) -> Result<bool, NoMemory> {
+fn creates_all(alloc: Global, hall: &mut Hall) -> Result<bool, Fail> {
     for (ranks, reply) in GROUPS {
         for process in 0..4 {
             if !answers(alloc, hall, &(process, Group(*ranks), *reply))? {
@@ -639,7 +633,7 @@ const CLAIMED_BY_THE_ROOT: &[Claimed] = &[
     (0, 5, None, "refused NoSuchRequest"),
 ];
 
-fn claims_in_groups(alloc: Global, hall: &mut Hall) -> Result<bool, NoMemory> {
+fn claims_in_groups(alloc: Global, hall: &mut Hall) -> Result<bool, Fail> {
     if !creates_all(alloc, hall)? || !answers_all(alloc, hall, GATHERED_BY_TWO)? {
         return Ok(false);
     }

@@ -14,7 +14,6 @@ use std::process::Abort;
 use std::rt::Files;
 use std::test::Fail;
 use trial_kit::pages;
-use wall_labels::NoMemory;
 use wall_policy::read_policy;
 
 /// How many rounds are played, of two collectives each.
@@ -34,7 +33,7 @@ const ROUND: &[Line] = &[
 ];
 
 /// Makes the calls of the lines, whatever they are told.
-fn asks_all(alloc: Global, hall: &mut Hall, lines: &[Line]) -> Result<(), NoMemory> {
+fn asks_all(alloc: Global, hall: &mut Hall, lines: &[Line]) -> Result<(), Fail> {
     for line in lines {
         answers(alloc, hall, line)?;
     }
@@ -43,7 +42,7 @@ fn asks_all(alloc: Global, hall: &mut Hall, lines: &[Line]) -> Result<(), NoMemo
 
 /// Whether all four take the request of that number, and are told that the broadcast of its round
 /// was denied, or the sum of its round.
-fn all_take(alloc: Global, hall: &mut Hall, request: u64) -> Result<bool, NoMemory> {
+fn all_take(alloc: Global, hall: &mut Hall, request: u64) -> Result<bool, Fail> {
     let reply = if request % 2 == 0 {
         "denied Simple 1 0"
     } else {
@@ -57,7 +56,7 @@ fn all_take(alloc: Global, hall: &mut Hall, request: u64) -> Result<bool, NoMemo
     Ok(true)
 }
 
-fn takes_in_order(alloc: Global, hall: &mut Hall) -> Result<bool, NoMemory> {
+fn takes_in_order(alloc: Global, hall: &mut Hall) -> Result<bool, Fail> {
     for number in 0..ROUNDS {
         asks_all(alloc, hall, ROUND)?;
         if !all_take(alloc, hall, 2 * number)? || !all_take(alloc, hall, 2 * number + 1)? {
@@ -73,7 +72,7 @@ fn has_fit_book(hall: &Hall) -> bool {
 }
 
 /// All rounds are posted before the first take, and the last request is taken first.
-fn takes_backwards(alloc: Global, hall: &mut Hall) -> Result<bool, NoMemory> {
+fn takes_backwards(alloc: Global, hall: &mut Hall) -> Result<bool, Fail> {
     for _ in 0..ROUNDS {
         asks_all(alloc, hall, ROUND)?;
         if !has_fit_book(hall) {
@@ -104,7 +103,7 @@ const BROADCAST: &[Line] = &[
 ];
 
 /// Whether it is granted to process 1, 2 and 3, as their request of that number.
-fn all_but_one_take(alloc: Global, hall: &mut Hall, request: u64) -> Result<bool, NoMemory> {
+fn all_but_one_take(alloc: Global, hall: &mut Hall, request: u64) -> Result<bool, Fail> {
     asks_all(alloc, hall, BROADCAST)?;
     for process in 1..4 {
         if !answers(alloc, hall, &(process, Take(request), "delivered [5]"))? {
@@ -115,7 +114,7 @@ fn all_but_one_take(alloc: Global, hall: &mut Hall, request: u64) -> Result<bool
 }
 
 /// Process 0 alone has not taken three outcomes. It takes the last first, and then the first.
-fn waits_for_one(alloc: Global, hall: &mut Hall) -> Result<bool, NoMemory> {
+fn waits_for_one(alloc: Global, hall: &mut Hall) -> Result<bool, Fail> {
     for request in 0..3 {
         if !all_but_one_take(alloc, hall, request)? {
             return Ok(false);
@@ -173,7 +172,7 @@ fn is_unknown(hall: &Hall, process: u32) -> bool {
 }
 
 /// Whether two requests for a broadcast are closed, once each, and the others are told it still.
-fn two_are_closed(alloc: Global, hall: &mut Hall) -> Result<bool, NoMemory> {
+fn two_are_closed(alloc: Global, hall: &mut Hall) -> Result<bool, Fail> {
     asks_all(alloc, hall, BROADCAST)?;
     let closed = is_closed(hall, 1, 3) && is_closed(hall, 3, 2);
     let known = is_unknown(hall, 1) && !is_unknown(hall, 0);
@@ -253,7 +252,7 @@ fn memory_is_given_back(rt: HostRuntime) -> Result<(), Fail> {
 }
 
 /// Whether `run_calls` answers a sum of four as it should, in so many halls one after another.
-fn sums_often(alloc: Global, halls: u32) -> Result<bool, NoMemory> {
+fn sums_often(alloc: Global, halls: u32) -> Result<bool, Fail> {
     for _ in 0..halls {
         if !runs(alloc, RIVALS, SUM_OF_FOUR)? {
             return Ok(false);
@@ -263,7 +262,7 @@ fn sums_often(alloc: Global, halls: u32) -> Result<bool, NoMemory> {
 }
 
 /// Whether `run_two` answers two such sums as it should, in so many pairs of halls.
-fn pairs_often(alloc: Global, pairs: u32) -> Result<bool, NoMemory> {
+fn pairs_often(alloc: Global, pairs: u32) -> Result<bool, Fail> {
     for _ in 0..pairs {
         if !both(alloc, AT_ONCE, Looked::Replies)? {
             return Ok(false);

@@ -17,8 +17,8 @@ use run_model::{Call, Refusal, Reply};
 use run_state::Book;
 use std::process::Abort;
 use trial_kit::policies::BANKS_AND_OIL;
+use wall_labels::Op;
 use wall_labels::memory::{ExpectingSink, Fuse};
-use wall_labels::{NoMemory, Op};
 use wall_policy::{Policy, PolicyFault, read_policy};
 
 /// What is answered, or what is answered to the same once more where this fault was.
@@ -44,7 +44,7 @@ fn policy_of(rt: &(impl AllocGlobal + Abort), text: &str) -> Policy {
 
 /// A hall under it.
 fn hall_of(rt: &(impl AllocGlobal + Abort), text: &str) -> Hall {
-    match again!(Hall::open(rt.alloc(), policy_of(rt, text)), NoMemory) {
+    match again!(Hall::open(rt.alloc(), policy_of(rt, text)), _) {
         Ok(hall) => hall,
         Err(_) => panic!(rt; "no hall"),
     }

@@ -470,17 +470,17 @@ fn devices_are_read_to_their_limit(rt: HostRuntime) {
     }
 }
 
-// The lines of the acts of each process, process by process.
-fn put_scripts(policy: &Policy, scripts: &Scripts, text: &mut Vec<u8>) -> Result<(), NoMemory>
+// The lines of the acts of each process, process by process; false where there are too many.
+fn put_scripts(policy: &Policy, scripts: &Scripts, text: &mut Vec<u8>) -> Result<bool, NoMemory>
     requires { ScriptsHaveKnownLabels policy.now scripts.now }
 {
     for (process, acts) in scripts.as_slice().iter().enumerate() {
         let Ok(process) = u32::try_from(process) else {
-            return Err(NoMemory);
+            return Ok(false);
         };
         put_acts(policy, process, acts, text)?;
     }
-    Ok(())
+    Ok(true)
 }
 
 fn put_acts(policy: &Policy, process: u32, acts: &Acts, text: &mut Vec<u8>) -> Result<(), NoMemory>
@@ -515,7 +515,7 @@ fn are_put_as(alloc: Global, policy: &Policy, scripts: &Scripts, acts: &str) -> 
     requires { ScriptsHaveKnownLabels policy.now scripts.now }
 {
     let mut text = Vec::new(alloc);
-    let is_put = put_scripts(policy, scripts, &mut text).is_ok();
+    let is_put = matches!(put_scripts(policy, scripts, &mut text), Ok(true));
     is_put && text.as_slice() == acts.as_bytes()
 }
 

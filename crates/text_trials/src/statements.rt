@@ -12,9 +12,7 @@ use std::test::Fail;
 fn read(rt: &impl AllocGlobal, words: &mut Parts) -> Result<(Signature, Own), LineFault> {
     let mut memory = Memory::new(rt.alloc());
     let statement = next_statement(&mut memory, words)?;
-    if memory.ran_out() {
-        return Err(LineFault::NoMemory);
-    }
+    memory.end()?;
     Ok(statement)
 }
 

@@ -111,7 +111,7 @@ fn is_answer(
     pair: Pair,
     looked: Looked,
     answer: &Result<TwoRuns, NoMemory>,
-) -> Result<bool, NoMemory> {
+) -> Result<bool, Fail> {
     match (answer, looked) {
         (Ok(two), Looked::Replies) => {
             Ok(told(alloc, pair.0, &two.first)? && told(alloc, pair.1, &two.second)?)
@@ -120,7 +120,7 @@ fn is_answer(
             two.first.as_slice().len() == pair.0.len()
                 && two.second.as_slice().len() == pair.1.len(),
         ),
-        (Err(_), Looked::Replies) => Err(NoMemory),
+        (Err(_), Looked::Replies) => Err(Fail::from("out of memory")),
         (Err(_), Looked::Number) => Ok(true),
     }
 }
@@ -132,7 +132,7 @@ fn run_both(
     calls: (Calls, Calls),
     pair: Pair,
     looked: Looked,
-) -> Result<bool, NoMemory>
+) -> Result<bool, Fail>
     requires first { HaveKnownLabels policy calls.0 }
     requires second { HaveKnownLabels policy calls.1 }
 {
@@ -144,38 +144,37 @@ fn run_both(
 }
 
 /// The calls of both lists.
-fn both_calls(alloc: Global, policy: &Policy, pair: Pair) -> Result<(Calls, Calls), NoMemory>
+fn both_calls(alloc: Global, policy: &Policy, pair: Pair) -> Result<(Calls, Calls), Fail>
     ensures first { IfOk result (λ both. HaveKnownLabels policy.now both.0) }
     ensures second { IfOk result (λ both. HaveKnownLabels policy.now both.1) }
 {
-    let Ok(first) = calls(alloc, policy, pair.0) else {
-        return Err(NoMemory);
-    };
+    let first = calls(alloc, policy, pair.0)?;
     match calls(alloc, policy, pair.1) {
         Ok(second) => Ok((first, second)),
-        Err(_) => {
+        Err(fail) => {
             drop(first);
-            Err(NoMemory)
+            Err(fail)
         }
     }
 }
 
 /// Whether `run_two` answers the lines' calls as they say.
-pub(crate) fn both(alloc: Global, pair: Pair, looked: Looked) -> Result<bool, NoMemory> {
-    let Ok(policy) = read_policy(alloc, RIVALS.as_bytes()) else {
-        return Err(NoMemory);
+pub(crate) fn both(alloc: Global, pair: Pair, looked: Looked) -> Result<bool, Fail> {
+    let policy = match read_policy(alloc, RIVALS.as_bytes()) {
+        Ok(policy) => policy,
+        Err(fault) => return Err(Fail::from(fault)),
     };
     match both_calls(alloc, &policy, pair) {
         Ok(calls) => run_both(alloc, policy, calls, pair, looked),
-        Err(_) => {
+        Err(fail) => {
             drop(policy);
-            Err(NoMemory)
+            Err(fail)
         }
     }
 }
 
 /// Whether `run_two` answers the lines' calls as they say once the groups were created.
-fn both_in_groups(alloc: Global, first: &[Line], second: &[Line]) -> Result<bool, NoMemory> {
+fn both_in_groups(alloc: Global, first: &[Line], second: &[Line]) -> Result<bool, Fail> {
     let first = after_groups(alloc, first)?;
     let second = after_groups(alloc, second)?;
     both(alloc, (&first, &second), Looked::Replies)

@@ -1,6 +1,7 @@
 //! Why a policy file is refused.
 use std::alloc::{AllocError, AllocFailed};
 use thiserror::Error;
+use wall_labels::NoMemory;
 
 /// Why a tree gives no record.
 #[derive(Clone, Copy)]
@@ -9,14 +10,25 @@ pub(crate) enum FormFault {
     NoMemory,
 }
 
+impl From<NoMemory> for FormFault {
+    ghost use Rattle.std.specs.Prelude.{◌≡◌};
+    ghost use Rattle.wall_policy.specs.declared.fault.FormFault.TheVariants.{NoMemory};
+
+    ghost from_gives = { λ _ e. e ≡ NoMemory };
+
+    fn from(_refused: NoMemory) -> FormFault {
+        FormFault::NoMemory
+    }
+}
+
 impl From<AllocError> for FormFault {
     ghost use Rattle.std.specs.Prelude.{◌≡◌};
     ghost use Rattle.wall_policy.specs.declared.fault.FormFault.TheVariants.{NoMemory};
 
     ghost from_gives = { λ _ e. e ≡ NoMemory };
 
-    fn from(_e: AllocError) -> FormFault {
-        FormFault::NoMemory
+    fn from(refused: AllocError) -> FormFault {
+        FormFault::from(NoMemory::from(refused))
     }
 }
 
@@ -26,8 +38,8 @@ impl<T: Drop> From<AllocFailed<T>> for FormFault {
 
     ghost from_gives = { λ _ e. e ≡ NoMemory };
 
-    fn from(_e: AllocFailed<T>) -> FormFault {
-        FormFault::NoMemory
+    fn from(refused: AllocFailed<T>) -> FormFault {
+        FormFault::from(NoMemory::from(refused))
     }
 }
 
@@ -74,13 +86,24 @@ pub enum PolicyFault {
     NoMemory,
 }
 
+impl From<NoMemory> for PolicyFault {
+    ghost use Rattle.std.specs.Prelude.{◌≡◌};
+    ghost use Rattle.wall_policy.specs.declared.fault.PolicyFault.TheVariants.{NoMemory};
+
+    ghost from_gives = { λ _ e. e ≡ NoMemory };
+
+    fn from(_refused: NoMemory) -> PolicyFault {
+        PolicyFault::NoMemory
+    }
+}
+
 impl From<AllocError> for PolicyFault {
     ghost use Rattle.std.specs.Prelude.{◌≡◌};
     ghost use Rattle.wall_policy.specs.declared.fault.PolicyFault.TheVariants.{NoMemory};
 
     ghost from_gives = { λ _ e. e ≡ NoMemory };
 
-    fn from(_e: AllocError) -> PolicyFault {
-        PolicyFault::NoMemory
+    fn from(refused: AllocError) -> PolicyFault {
+        PolicyFault::from(NoMemory::from(refused))
     }
 }

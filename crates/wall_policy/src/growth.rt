@@ -40,14 +40,22 @@ pub enum GrowthFault {
     NoMemory,
 }
 
+impl From<wall_labels::NoMemory> for GrowthFault {
+    ghost from_gives = { λ _ e. e ≡ NoMemory };
+
+    fn from(_refused: wall_labels::NoMemory) -> GrowthFault {
+        GrowthFault::NoMemory
+    }
+}
+
 impl From<AllocError> for GrowthFault {
     ghost use Rattle.std.specs.Prelude.{◌≡◌};
     ghost use Rattle.wall_policy.specs.declared.growth.GrowthFault.TheVariants.{NoMemory};
 
     ghost from_gives = { λ _ e. e ≡ NoMemory };
 
-    fn from(_e: AllocError) -> GrowthFault {
-        GrowthFault::NoMemory
+    fn from(refused: AllocError) -> GrowthFault {
+        GrowthFault::from(wall_labels::NoMemory::from(refused))
     }
 }
 

@@ -9,13 +9,13 @@ pub step-requires-clause-under_way : goal.step-requires-clause-under_way
 step-requires-clause-under_way g c =
     (take c.loop-at.at c.args.book.now.list, c.loop-at.invariant.seen)
 
-pub returns-in-Err-clause-fault : goal.returns-in-Err-clause-fault
-returns-in-Err-clause-fault g c =
+pub returns-in-Err-step-clause-fault : goal.returns-in-Err-step-clause-fault
+returns-in-Err-step-clause-fault g c =
     let before = take c.loop-at.at c.args.book.now.list in
     subst (IsFaultWithin c.args.policy.now c.args.book.now.list) (sym c.at.ensures)
     (stops_within c.args.policy.now c.loop-at.audit c.args.book.now.list c.loop-at.at
-    c.get-entry.result.now c.in-Err.fault c.get-entry.ensures.entry c.len-at-end.ensures.few
-    c.loop-at.invariant.seen (c.in-Err.ensures.fault before c.loop-at.invariant.seen).1)
+    c.get-entry.result.now c.in-Err-step.fault c.get-entry.ensures.entry c.len-at-end.ensures.few
+    c.loop-at.invariant.seen (c.in-Err-step.ensures.fault before c.loop-at.invariant.seen).1)
 
 pub loop-at-preserved : goal.loop-at-preserved
 loop-at-preserved g c =

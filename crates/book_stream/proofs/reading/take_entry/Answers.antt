@@ -28,7 +28,7 @@ returns-in-Ok-Said-clause-read c = λ lines h.
     (ap (λ n. n + 1) c.judge-reading.ensures.number) low
     (c.judge-reading.ensures.judged h.entries told.0 h.number (omega (arith, low, number)) h.judged
     (λ off. same_entry said told.0 c.in-Ok-Said.entry told.1
-    (c.in-Ok-Said.ensures.kept (sym c.ran_out.ensures ∙ off) ∙ ap Ok c.in-Ok-Said.field-0-is)))
+    (c.in-Ok-Said.ensures.kept off ∙ ap Ok c.in-Ok-Said.field-0-is)))
 
 pub returns-else-number-reading-clause-read : goal.returns-else-number-reading-clause-read
 returns-else-number-reading-clause-read c = λ lines h.

@@ -5,11 +5,11 @@ use Rattle.book_stream.proofs.SourceLemmas.{breaks_off, more_stops, gave_more, c
 use Rattle.book_stream.proofs.SourceLemmas.{took_some}
 use Rattle.book_stream.proofs.stream.read_whole.Goals as goal
 
-pub returns-in-Err-clause-fault : goal.returns-in-Err-clause-fault
-returns-in-Err-clause-fault g c = failed g.S.Source.failures g.S.Source.remaining c.args.policy.now
+pub returns-in-Err-read-clause-fault : goal.returns-in-Err-read-clause-fault
+returns-in-Err-read-clause-fault g c = failed g.S.Source.failures g.S.Source.remaining c.args.policy.now
     c.args.source.now c.loop-reads.source c.read.new.self c.loop-reads.reader
     (g.T.Along.has_taken c.loop-reads.along) c.loop-reads.reads
-    c.loop-reads.invariant c.in-Err.ensures.failed c.in-Err.ensures.bytes
+    c.loop-reads.invariant c.in-Err-read.ensures.failed c.in-Err-read.ensures.bytes
 
 pub returns-then-n-eq0-clause-whole : goal.returns-then-n-eq0-clause-whole
 returns-then-n-eq0-clause-whole g c =

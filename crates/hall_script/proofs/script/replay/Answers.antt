@@ -1,6 +1,7 @@
-use Rattle.std.proofs.Common.{refl}
+use Rattle.std.proofs.Common.{refl, sym, subst}
 use Rattle.hall_core.specs.Halls.{StandsFor, HallValue}
 use Rattle.hall_script.specs.Devices.{used}
+use Rattle.hall_script.specs.Scripts.{StopsWith}
 use Rattle.hall_script.proofs.RunLemmas.{short_of_memory, handed_back, same_policy, not_handed_back}
 use Rattle.hall_script.proofs.script.replay.Goals as goal
 
@@ -17,7 +18,8 @@ returns-clause-fault g c =
     let source = used g.R.Source.failures g.R.Source.remaining c.args.source.now
     c.read_device.new.source in
     let sink = used g.W.Sink.failures g.W.Sink.contents c.args.sink.now c.args.sink.now in
-    short_of_memory c.args.policy source sink c.in-Ok.ensures.whole.0 refl
+    subst (StopsWith c.args.policy source sink) (sym c.from.ensures)
+    (short_of_memory c.args.policy source sink c.in-Ok.ensures.whole.0 refl)
 
 pub returns-in-Ok-open-clause-fault : goal.returns-in-Ok-open-clause-fault
 returns-in-Ok-open-clause-fault g c =

@@ -1,7 +1,7 @@
 use Rattle.std.proofs.Common.{◌≡◌, ◌∙◌, Some, inl, inr, refl, subst, sym}
 use Rattle.hall_script.specs.Devices.{used}
 use Rattle.live_book.specs.Books.{SinkValue, StandsBehind, covered}
-use Rattle.program_commands.specs.Endings.{Writes}
+use Rattle.program_commands.specs.Serving.{WritesBook}
 use Rattle.program_commands.specs.Replaying.{text_of}
 use Rattle.program_commands.specs.Serving.{HaveEndedIn, IsUnserved}
 use Rattle.program_commands.specs.declared.ending.Ending.{Ending}
@@ -23,7 +23,7 @@ returns-in-Ok-serve_all g c =
           g.S.Desk.heard g.O.Sink.failures g.O.Sink.contents (StandsBehind v) covered c.args.most
           wall c.args.peers.items served.sessions.items
           (λ run. (back : _) × (Some new ≡ Some back)
-          × Writes (used spoilt kept book back) (text_of wall run) ending)) c.requires.begun (
+          × WritesBook (used spoilt kept book back) (text_of wall run) ending)) c.requires.begun (
             served.machine,
             all,
             (

@@ -42,12 +42,12 @@ failed f = Err f
 bad_is : (f : ArgFault) → failed f ≡ failed BadArguments → f ≡ BadArguments
 bad_is f e = cc
 
-pub returns-in-Err-clause-bad : goal.returns-in-Err-clause-bad
-returns-in-Err-clause-bad c same none =
+pub returns-in-Err-try_get_matches_from-clause-bad : goal.returns-in-Err-try_get_matches_from-clause-bad
+returns-in-Err-try_get_matches_from-clause-bad c same none =
     let app = c.in-Ok.ensures in
-    let parse = c.in-Err.ensures in
-    some_kind (fault_of program_app (map (λ w. w.now) c.args.words.now)) c.in-Err.error
-    (subst (λ a. HasKind (fault_of a (map (λ w. w.now) c.args.words.now)) c.in-Err.error) app
+    let parse = c.in-Err-try_get_matches_from.ensures in
+    some_kind (fault_of program_app (map (λ w. w.now) c.args.words.now)) c.in-Err-try_get_matches_from.error
+    (subst (λ a. HasKind (fault_of a (map (λ w. w.now) c.args.words.now)) c.in-Err-try_get_matches_from.error) app
     (parse.kinds (ap is_simple_and_free app ∙ simple_and_free)))
     (λ memory. c.fault_for.ensures.bad (bad_is c.fault_for.result same) (c.kind.ensures ∙
     memory)) none

@@ -7,10 +7,10 @@ use Rattle.rank_run.proofs.ready.prepare.Goals as goal
 pub deal-jobs-requires-clause-number : goal.deal-jobs-requires-clause-number
 deal-jobs-requires-clause-number c =
     let n = processes c.args.policy in
-    let o = c.in-Ok-open.passes.ok in
+    let o = c.in-Ok-open.opened.1.ok in
     let p = c.into_vec.result.ok in
     let a =
-    passes_length c.in-Ok-open.door n c.in-Ok-open.passes.items c.in-Ok-open.ensures.passes in
+    passes_length c.in-Ok-open.opened.0 n c.in-Ok-open.opened.1.items c.in-Ok-open.ensures.passes in
     let e = ap (λ (l : List (List Act)). length l) c.into_vec.ensures in
     let long = c.requires in
     let number = c.in-Ok.ensures.number in

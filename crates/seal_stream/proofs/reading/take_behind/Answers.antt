@@ -12,7 +12,7 @@ returns-in-Ok-Said-clause-taken c =
     ∙ ap (λ l. Ok (number_of_end l)) c.in-Ok-Said.field-0-is) in
     c.take_entry-is_kept.ensures told.0 c.args.line.now
     (λ off. same_entry said told.0 c.in-Ok-Said.entry told.1
-    (c.in-Ok-Said.ensures.kept (sym c.ran_out.ensures ∙ off) ∙ ap Ok c.in-Ok-Said.field-0-is))
+    (c.in-Ok-Said.ensures.kept off ∙ ap Ok c.in-Ok-Said.field-0-is))
     told.1
 
 pub returns-in-Err-take_end-clause-stop : goal.returns-in-Err-take_end-clause-stop

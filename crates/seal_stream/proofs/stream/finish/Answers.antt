@@ -24,15 +24,15 @@ returns-in-Ok-send-clause-ends g c = λ before lines kept line s are.
       done.2,
     )
 
-pub returns-in-Err-clause-ends : goal.returns-in-Err-clause-ends
-returns-in-Err-clause-ends g c = λ before lines kept line s are.
+pub returns-in-Err-send-clause-ends : goal.returns-in-Err-send-clause-ends
+returns-in-Err-send-clause-ends g c = λ before lines kept line s are.
     let now = g.W.Sink.contents c.args.sealed.now in
     let done = c.in-Ok.ensures lines kept are s.judged in
     let whole = lines_text kept ++ done.0 in (
       whole,
       moves_break before now (g.W.Sink.contents c.send.new.sink) whole c.put_tail.new.text.items []
           whole (moves_more before now (lines_text kept) c.args.writer.now.pending.items
-          c.put_tail.new.text.items done.0 s.moved done.1) c.in-Err.ensures.prefix
+          c.put_tail.new.text.items done.0 s.moved done.1) c.in-Err-send.ensures.prefix
           (append-nil whole),
       λ text cut. (done.2 text cut).0,
     )

@@ -1,16 +1,23 @@
+use Rattle.std.proofs.Common.{sym, subst}
 use Rattle.hall_script.specs.Devices.{used}
+use Rattle.seal_stream.specs.Seals.{IsStopped}
 use Rattle.seal_stream.proofs.EndLemmas.{lines_are, nothing_stopped, is_stopped, whole_are}
 use Rattle.seal_stream.proofs.EndLemmas.{sealed_by, stopped_by}
 use Rattle.seal_stream.proofs.stream.seal_source.Goals as goal
 
-pub returns-in_default-clause-stopped : goal.returns-in_default-clause-stopped
-returns-in_default-clause-stopped g c = nothing_stopped c.args.policy.now c.processes.ensures.policy
+pub returns-in-Err-clause-stopped : goal.returns-in-Err-clause-stopped
+returns-in-Err-clause-stopped g c =
+    subst (IsStopped c.args.policy.now
     (used g.B.Source.failures g.B.Source.remaining c.args.book.now c.args.book.now)
-    g.W.Sink.failures g.W.Sink.contents c.args.sealed.now c.args.sealed.now
+    (used g.W.Sink.failures g.W.Sink.contents c.args.sealed.now c.args.sealed.now))
+    (sym c.from.ensures)
+    (nothing_stopped c.args.policy.now c.processes.ensures.policy
+    (used g.B.Source.failures g.B.Source.remaining c.args.book.now c.args.book.now)
+    g.W.Sink.failures g.W.Sink.contents c.args.sealed.now c.args.sealed.now)
 
 pub begins_soundly-requires : goal.begins_soundly-requires
 begins_soundly-requires g c =
-    let s = c.in-Err.ensures.stopped in (
+    let s = c.in-Err-read_whole.ensures.stopped in (
       s.lines,
       s.kept,
       lines_are c.args.policy.now c.processes.ensures.policy c.read_whole.new.writer.reading s.text
@@ -18,18 +25,18 @@ begins_soundly-requires g c =
       s.judged,
     )
 
-pub returns-in-Err-clause-stopped : goal.returns-in-Err-clause-stopped
-returns-in-Err-clause-stopped g c =
-    let s = c.in-Err.ensures.stopped in
+pub returns-in-Err-read_whole-clause-stopped : goal.returns-in-Err-read_whole-clause-stopped
+returns-in-Err-read_whole-clause-stopped g c =
+    let s = c.in-Err-read_whole.ensures.stopped in
     let wall = c.args.policy.now in
     let policy = c.processes.ensures.policy in
     is_stopped wall policy
     (used g.B.Source.failures g.B.Source.remaining c.args.book.now c.read_whole.new.book)
     g.W.Sink.failures g.W.Sink.contents c.args.sealed.now c.read_whole.new.sealed
-    c.read_whole.new.writer c.in-Err.stop s
+    c.read_whole.new.writer c.in-Err-read_whole.stop s
     (c.begins_soundly.ensures s.lines s.kept
     (lines_are wall policy c.read_whole.new.writer.reading s.text s.lines s.kept s.more s.front
-    s.judged) s.judged) c.in-Err.ensures.failed
+    s.judged) s.judged) c.in-Err-read_whole.ensures.failed
 
 pub begins_soundly-requires-2 : goal.begins_soundly-requires-2
 begins_soundly-requires-2 g c =

@@ -2,6 +2,7 @@ use Rattle.std.proofs.Common.{◌∙◌, List, [], ◌∷◌, ◌++◌, length, 
 use Rattle.std.proofs.Common.{arith, append_assoc}
 use Rattle.std.proofs.lemmas.List.Splits.{length-slice_split}
 use Rattle.coll_text.specs.Numbers.{Word}
+use Rattle.coll_text.specs.Reading.{parts}
 use Rattle.book_stream.specs.Cuts.{behind}
 use Rattle.seal_stream.specs.Steps.{StandsBehind, Stops}
 use Rattle.seal_stream.specs.declared.stop.SealStop.TheVariants.{NoMemory}
@@ -19,8 +20,10 @@ returns-in-Err-clause-taken g c = λ before lines kept line s.
     let now = g.W.Sink.contents c.args.sealed.now in
     let old = c.args.writer.now in
     let b = some_behind line _ in
-    stops_here wall old before now now lines kept line s old.reading _ refl refl _ b.0 b.1
-    (ap (λ (ws : List Word). lines ++ ws) b.2) NoMemory tt
+    subst (Stops wall _ before now (lines ++ behind line (parts 10 c.args.bytes.now)))
+    (sym c.from-in-Err.ensures)
+    (stops_here wall old before now now lines kept line s old.reading _ refl refl _ b.0 b.1
+    (ap (λ (ws : List Word). lines ++ ws) b.2) NoMemory tt)
 
 pub loop-part-init : goal.loop-part-init
 loop-part-init g c = record {

@@ -1,5 +1,5 @@
-use Rattle.std.proofs.Common.{◌∷◌, refl, subst}
-use Rattle.seal_stream.specs.Steps.{IsBadBehind, kept_if}
+use Rattle.std.proofs.Common.{◌∷◌, refl, sym, subst}
+use Rattle.seal_stream.specs.Steps.{IsBadBehind, Stops, kept_if}
 use Rattle.seal_stream.proofs.WriterLemmas.{among, bad_fails, long_among, stops_here}
 use Rattle.seal_stream.proofs.WriterLemmas.{stops_behind, stops_full, stands_on}
 use Rattle.seal_stream.proofs.writer.take_one.Goals as goal
@@ -46,8 +46,10 @@ returns-in-Err-begin-clause-taken g c = λ before lines kept line more s.
     let was = g.W.Sink.contents c.args.sealed.now in
     let now = g.W.Sink.contents c.put_if.new.sealed in
     let same = c.in-Some.ensures line s.holds in
-    stops_full wall c.args.writer.now before was now lines kept line s c.in-Ok.is_kept _
-    c.in-Some.line.now same (c.in-Ok.ensures.taken lines kept s.judged) c.put_if.new.pending.items c.in-Ok-put_if.ensures.moved c.args.next.now more
+    subst (Stops wall _ before _ _) (sym c.from-in-Err-begin.ensures)
+    (stops_full wall c.args.writer.now before was now lines kept line s c.in-Ok.is_kept _
+    c.in-Some.line.now same (c.in-Ok.ensures.taken lines kept s.judged)
+    c.put_if.new.pending.items c.in-Ok-put_if.ensures.moved c.args.next.now more)
 
 pub returns-in-Ok-begin-clause-taken : goal.returns-in-Ok-begin-clause-taken
 returns-in-Ok-begin-clause-taken g c = λ before lines kept line s.

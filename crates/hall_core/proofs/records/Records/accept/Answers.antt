@@ -1,7 +1,6 @@
 use Rattle.std.proofs.Common.{◌≡◌, ◌≤◌, not, length}
-use Rattle.std.proofs.Common.{sym, ap, ◌∙◌, subst, arith, ⊎_elim}
+use Rattle.std.proofs.Common.{refl, sym, ap, ◌∙◌, subst, arith, Result, Ok, Err, IsOk, IsErr, OnOk, OnErr}
 use Rattle.std.proofs.lemmas.Grind.{common_steps}
-use Rattle.std.proofs.lemmas.Bool.{cases_Bool}
 use Rattle.mpi_elems.specs.Contents.{Contents}
 use Rattle.coll_routes.specs.Faults.{stated_type}
 use Rattle.wall_verdict.specs.Star.{star}
@@ -18,6 +17,12 @@ use Rattle.hall_core.specs.Invariant.{view_in}
 use Rattle.hall_core.proofs.PostLemmas.{few_elements, looked_stated, has_form_of, due}
 use Rattle.hall_core.proofs.PostLemmas.{post_counted, post_wanted}
 use Rattle.hall_core.proofs.records.Records.accept.Goals as goal
+
+-- by whether a result is one, with what is so then
+by_result : {A E C K U : Type 0} (r : Result A E) → OnOk r K → OnErr r U →
+    (IsOk r → K → C) → (IsErr r → U → C) → C
+by_result (Ok a) k u ok err = ok refl k
+by_result (Err e) k u ok err = err refl u
 
 pub overflow_cast-given : goal.overflow_cast-given
 overflow_cast-given c =
@@ -102,19 +107,18 @@ returns-clause-steps c = λ m is stands.
       label = c.label-label.ensures i;
       barred = not c.passes-passed.result;
     }) (c.kept-part.ensures i)) in
-    ⊎_elim
-    (λ t. post_counted c.args.self.now.policy (view_in c.enter-entered.new.self) m
+    by_result c.enter-entered.result c.enter-entered.ensures.entered
+    c.enter-entered.ensures.unchanged
+    (λ t entered. post_counted c.args.self.now.policy (view_in c.enter-entered.new.self) m
     c.args.seat.process
     c.args.posting c.passes-passed.result c.given_to-request.result c.answer.result owed
     (c.answer.ensures.counted t)
     (subst (λ (h : Contribution Contents).
     StandsForEffects (view_in c.enter-entered.new.self) (with_contribution m h)) same
-    (c.enter-entered.ensures.entered t m stands (subst (λ (h : Contribution Contents).
+    (entered m stands (subst (λ (h : Contribution Contents).
     IsCounted c.args.self.now.policy h.post (posts_made m)) (sym same) counts))))
-    (λ f. post_wanted c.args.self.now.policy (view_in c.enter-entered.new.self) m
+    (λ f unchanged. post_wanted c.args.self.now.policy (view_in c.enter-entered.new.self) m
     c.args.seat.process
     c.args.posting c.passes-passed.result c.given_to-request.result c.answer.result owed
     (c.answer.ensures.wanted f)
-    (subst (λ (h : HallView). StandsForEffects h m) (sym (c.enter-entered.ensures.unchanged f))
-    stands))
-    (cases_Bool c.enter-entered.result)
+    (subst (λ (h : HallView). StandsForEffects h m) (sym unchanged) stands))

@@ -1,5 +1,5 @@
 use Rattle.hall_core.specs.Invariant.{view_in}
-use Rattle.hall_core.proofs.DueLemmas.{outcome_steps, due_not_quiet, grant_wanting}
+use Rattle.hall_core.proofs.DueLemmas.{outcome_steps, due_not_quiet}
 use Rattle.hall_core.proofs.records.Records.claim_looked.Goals as goal
 
 pub returns-in-Outcome-clause-steps : goal.returns-in-Outcome-clause-steps
@@ -11,8 +11,3 @@ pub returns-in-Outcome-clause-unchanged : goal.returns-in-Outcome-clause-unchang
 returns-in-Outcome-clause-unchanged c = λ quiet.
     absurd (due_not_quiet (view_in c.args.self.now) c.in-Outcome.it c.in-Outcome.reply
     c.in-Outcome.ensures.due quiet)
-
-pub returns-in-Granted-clause-steps : goal.returns-in-Granted-clause-steps
-returns-in-Granted-clause-steps c =
-    grant_wanting (view_in c.args.self.now) c.args.process c.args.request c.in-Granted.full.now
-    c.in-Granted.rank c.in-Granted.open c.in-Granted.ensures

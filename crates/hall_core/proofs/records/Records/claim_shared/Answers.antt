@@ -1,10 +1,14 @@
 use Rattle.std.proofs.Common.{◌≢◌, ℕ, None, refl, sym, subst}
 use Rattle.std.specs.Arc.{arc_value}
 use Rattle.mpi_group.specs.Groups.{rank_in}
+use Rattle.run_model.specs.declared.call.Act.TheVariants.{Take}
 use Rattle.run_model.specs.declared.outcome.Outcome.TheVariants.{Granted}
+use Rattle.run_model.specs.declared.refusal.Refusal.{Refusal}
+use Rattle.run_model.specs.declared.reply.Reply.TheVariants.{Refused}
 use Rattle.hall_core.specs.Claims.{HoldsShare}
 use Rattle.hall_core.specs.Halls.{settlement}
 use Rattle.hall_core.specs.Invariant.{view_in}
+use Rattle.hall_core.specs.Moves.{Steps}
 use Rattle.hall_core.proofs.DueLemmas.{shared_steps, shared_wanting}
 use Rattle.hall_core.proofs.TakeLemmas.{rank_there}
 use Rattle.hall_core.proofs.TellLemmas.{tellable}
@@ -32,5 +36,7 @@ returns-in-Ok-clause-steps c =
 
 pub returns-in-Err-clause-steps : goal.returns-in-Err-clause-steps
 returns-in-Err-clause-steps c =
-    shared_wanting (view_in c.args.self.now) c.args.process c.args.request c.args.asked
-    (arc_value c.args.full) c.requires.waits c.requires.granted
+    subst (λ (f : Refusal). Steps (view_in c.args.self.now) (view_in c.args.self.now)
+    c.args.process (Take c.args.request) (Refused f)) (sym c.from.ensures)
+    (shared_wanting (view_in c.args.self.now) c.args.process c.args.request c.args.asked
+    (arc_value c.args.full) c.requires.waits c.requires.granted)

@@ -108,7 +108,7 @@ record-requires-clause-room c =
     }
 
 pub returns-in-Ok-enter-clause-entered : goal.returns-in-Ok-enter-clause-entered
-returns-in-Ok-enter-clause-entered c = λ done m stands counts.
+returns-in-Ok-enter-clause-entered c = λ m stands counts.
     let old : HallView = view_in c.args.self.now in
     let same : view_in c.make_room.new.self ≡ view_in c.args.self.now = c.make_room.ensures.same in
     let stood : StandsForPosts c.make_room.new.self.policy (seen c.make_room.new.self.post_state)
@@ -183,7 +183,7 @@ note-requires-clause-room c =
     }
 
 pub returns-in-Joins-clause-entered : goal.returns-in-Joins-clause-entered
-returns-in-Joins-clause-entered c = λ done m stands counts.
+returns-in-Joins-clause-entered c = λ m stands counts.
     let old : HallView = view_in c.args.self.now in
     let same : view_in c.make_room.new.self ≡ view_in c.args.self.now = c.make_room.ensures.same in
     let stood : StandsForPosts c.make_room.new.self.policy (seen c.make_room.new.self.post_state)

@@ -1,4 +1,9 @@
+use Rattle.std.proofs.Common.{sym, subst}
+use Rattle.run_model.specs.declared.call.Act.TheVariants.{Take}
+use Rattle.run_model.specs.declared.refusal.Refusal.{Refusal}
+use Rattle.run_model.specs.declared.reply.Reply.TheVariants.{Refused}
 use Rattle.hall_core.specs.Invariant.{view_in}
+use Rattle.hall_core.specs.Moves.{Steps}
 use Rattle.hall_core.proofs.DueLemmas.{outcome_steps, due_not_quiet, grant_steps, grant_wanting}
 use Rattle.hall_core.proofs.records.Records.take.Goals as goal
 
@@ -20,5 +25,7 @@ returns-in-Ok-clause-steps c =
 
 pub returns-in-Err-clause-steps : goal.returns-in-Err-clause-steps
 returns-in-Err-clause-steps c =
-    grant_wanting (view_in c.args.self.now) c.args.process c.args.request c.in-Granted.full.now
-    c.in-Granted.rank c.in-Granted.it c.in-Granted.ensures
+    subst (λ (f : Refusal). Steps (view_in c.args.self.now) (view_in c.args.self.now)
+    c.args.process (Take c.args.request) (Refused f)) (sym c.from.ensures)
+    (grant_wanting (view_in c.args.self.now) c.args.process c.args.request c.in-Granted.full.now
+    c.in-Granted.rank c.in-Granted.it c.in-Granted.ensures)

@@ -1,0 +1,11 @@
+use Rattle.std.proofs.Common.{subst}
+use Rattle.audit_book.specs.Checks.{IsFaultOf}
+use Rattle.run_model.proofs.RunModelLemmas.{no_bad_entry}
+use Rattle.program_commands.proofs.chain_given.put_given.Goals as goal
+
+pub unreachable-requires : goal.unreachable-requires
+unreachable-requires c =
+    let wall = c.args.reading.now.wall in
+    let entries = c.args.reading.now.entries.list in
+    no_bad_entry wall entries c.in-Err-BadEntry.field-0-0 c.requires
+    (subst (IsFaultOf wall entries) c.in-Err-BadEntry.field-0-is c.in-Err-BadEntry.ensures.fault)
