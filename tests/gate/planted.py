@@ -91,6 +91,12 @@ fn f(slots: S) -> R { Err(Refused { slots }) }
 fn f() -> K { ErrorKind::OutOfMemory }
 -- too large
 fn f(a: A) -> Result<V, AllocError> { Vec::with_capacity(a, usize::MAX) }
+-- too large, all bits
+fn f(a: A) -> Result<V, AllocError> { Vec::with_capacity(a, !0) }
+-- too large, a product
+fn f(a: A) -> Result<V, AllocError> { Vec::with_capacity(a, (1 << 30) * (1 << 30)) }
+-- too large, read from a text
+fn f(a: A) -> R { Vec::with_capacity(a, usize::from_str_radix("99", 16).unwrap_or(0)) }
 -- too large, spelled
 fn f(v: &mut V) -> Result<(), AllocError> { v.reserve(1_099_511_627_776) }
 -- too large, named
