@@ -73,6 +73,14 @@ pub(crate) fn put_process(
             let word = word.text();
             write!(text, "{name} here after {calls} calls: {word}\n")
         }
+        (Presence::Gone(why), None) => {
+            let why = why.text();
+            write!(text, "{name} gone after {calls} calls: {why}\n")
+        }
+        (Presence::Gone(_), Some(word)) => {
+            let word = word.text();
+            write!(text, "{name} gone after {calls} calls: {word}\n")
+        }
         (Presence::Left(why), _) => {
             let why = why.text();
             write!(text, "{name} left after {calls} calls: {why}\n")

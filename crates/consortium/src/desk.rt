@@ -1,12 +1,15 @@
-//! The desk of a process: its two named pipes, opened as its session begins and closed as soon as
-//! it has ended, by the thread of that session. Where the operator has put the process out, or has
-//! ended the run, nothing more is read there, and the last line that is written says so.
+//! The desk of a process: its two named pipes, opened as its session begins, closed as soon as it
+//! rests or has ended, and opened again for who comes back, by the thread of that session. Where the
+//! operator has put the process out, or has ended the run, nothing more is read there, and the last
+//! line that is written says so.
 //!
 //! No contract can say what a pipe gives or takes, so this is what the proof stands on: that the
 //! bytes which are read are those of the process's calls, and that those which are written go to
 //! its replies. `tests/live` tries it, with the built program and real processes.
 ghost use Rattle.std.specs.Prelude.{◌≡◌, ◌+◌, ◌<◌, ◌≤◌, length, IfSome};
 
+use crate::attendance::{Company, Presence};
+use crate::ends::let_in;
 use crate::events::{Event, Events, Why};
 use crate::pipes::{Pipes, Shut};
 use live_book::Receipt;
@@ -15,7 +18,16 @@ use program_files::{read_again, write_again};
 use std::alloc::{AllocError, Global};
 use std::fs::{File, OpenOptions};
 use std::sync::{Mutex, Wait};
+use std::thread;
+use std::time::Duration;
 use wall_labels::{Failed, Sink};
+
+// So many milliseconds pass before who could not be let in is let in again.
+const AGAIN_MILLIS: u64 = 100;
+
+// So many milliseconds the pipes of who is gone stay closed, so that whoever still reads the replies
+// sees their end. (No call of the system tells that it has.)
+const CLOSED_MILLIS: u64 = 50;
 
 // The two pipes, as far as they are open, and why they were not opened.
 #[derive(Drop)]
@@ -46,6 +58,9 @@ pub(crate) struct PipeDesk<'r, 'a, 'n, R: Wait> {
     pipes: &'a Pipes<'n>,
     opened: Mutex<Opened>,
     events: &'a Events<'n>,
+    // The pipes of all processes, and how many of these have not gone or left.
+    all: &'a [Pipes<'n>],
+    company: &'a Company,
 }
 
 impl<'r, 'a, 'n, R: Wait> PipeDesk<'r, 'a, 'n, R> {
@@ -94,6 +109,64 @@ impl<'r, 'a, 'n, R: Wait> PipeDesk<'r, 'a, 'n, R> {
             Some(word) => Why::Told(word),
             None => Why::End(end),
         }
+    }
+
+    // Waits until the pipes are opened again, after so many calls. Whether the process is served on.
+    // (Where one cannot be opened any more, the next read fails.)
+    fn rest(&self, end: SessionEnd, calls: u64) -> bool {
+        let (attendance, why) = (&self.pipes.attendance, Why::End(end));
+        if !attendance.go(self.rt, self.company, calls, why) {
+            // (Behind an answer that was not written whole there comes no other line.)
+            if let SessionEnd::WriteFailed = end {
+                self.keep(Opened::none(None));
+            }
+            return false;
+        }
+        self.keep(Opened::none(None));
+        let name = self.pipes.name;
+        self.events
+            .tell_again(self.rt, Event::Gone(name, calls, why));
+        thread::sleep(self.files, Duration::from_millis(CLOSED_MILLIS));
+        match self.open_both() {
+            Ok(opened) => {
+                // (Who has opened them is told too, where the session ends.)
+                self.keep(opened);
+                if !attendance.come_back(self.rt, self.company) {
+                    return false;
+                }
+                self.events.tell_again(self.rt, Event::Came(name));
+            }
+            Err(shut) => self.keep(Opened::none(Some(shut))),
+        }
+        true
+    }
+
+    // Where nobody is here any more, those that rest have left too. The first that sees it lets them
+    // in, until all have: nobody else would.
+    fn close_if_over(&self) {
+        if !self.company.is_to_close(self.rt) {
+            return;
+        }
+        for _ in self.rt.forever() {
+            if self.let_all_in() {
+                return;
+            }
+            thread::sleep(self.files, Duration::from_millis(AGAIN_MILLIS));
+        }
+        unreachable!()
+    }
+
+    // Lets those in that rest. Whether none does any more.
+    fn let_all_in(&self) -> bool {
+        let mut have_left = true;
+        for pipes in self.all {
+            if let Presence::Gone(_) = pipes.attendance.now(self.rt).presence {
+                if !let_in(self.rt, self.files, pipes) {
+                    have_left = false;
+                }
+            }
+        }
+        have_left
     }
 
     // What the client wrote. What comes when the session is to end is not looked at: there may be
@@ -189,16 +262,33 @@ impl<'d, 'r, 'a, 'n, R: Wait> Desk<PipeSink<'d, 'r, 'a, 'n, R>> for PipeSource<'
         }
     }
 
+    fn rest(&mut self, _sink: &PipeSink<'d, 'r, 'a, 'n, R>, end: SessionEnd, calls: u64) -> bool {
+        self.desk.rest(end, calls)
+    }
+
     fn close(&self, end: SessionEnd, calls: u64) {
         let why = self.desk.why(end);
-        // (All answers before it were written whole.)
+        // (Behind `left`, `exhausted` and `unbooked` there comes no other line.)
         if let Why::Told(word) = why {
-            let _ = self.desk.write(word.line().as_bytes());
+            match end {
+                SessionEnd::EndOfStream | SessionEnd::WriteFailed => {
+                    let _ = self.desk.write(word.line().as_bytes());
+                }
+                SessionEnd::Left
+                | SessionEnd::ReadFailed
+                | SessionEnd::Exhausted
+                | SessionEnd::Unbooked
+                | SessionEnd::NoMemory => {}
+            }
         }
         self.desk.keep(Opened::none(None));
-        self.desk.pipes.attendance.leave(self.desk.rt, calls, why);
+        self.desk
+            .pipes
+            .attendance
+            .leave(self.desk.rt, self.desk.company, calls, why);
         self.desk
             .tell(Event::Left(self.desk.pipes.name, calls, why));
+        self.desk.close_if_over();
     }
 }
 
@@ -241,6 +331,7 @@ pub(crate) fn desks_at<'r, 'a, 'n, R: Wait>(
     files: &'r HostRuntime,
     all: &'a [Pipes<'n>],
     events: &'a Events<'n>,
+    company: &'a Company,
 ) -> Result<Vec<PipeDesk<'r, 'a, 'n, R>>, AllocError> {
     let mut desks = Vec::new(alloc);
     for pipes in all {
@@ -251,6 +342,8 @@ pub(crate) fn desks_at<'r, 'a, 'n, R: Wait>(
             pipes,
             opened,
             events,
+            all,
+            company,
         })?;
     }
     Ok(desks)

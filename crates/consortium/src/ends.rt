@@ -5,9 +5,16 @@
 //! can say what a pipe takes; `tests/live` tries it.
 ghost use Rattle.std.specs.Prelude.{◌<◌, ◌≤◌, length, IfSome};
 
-use crate::pipes::Pipe;
+use crate::attendance::Presence;
+use crate::pipes::{Pipe, Pipes};
 use program_files::write_again;
 use std::fs::{File, OpenOptions};
+use std::sync::Wait;
+use std::thread;
+use std::time::Duration;
+
+// How many milliseconds it is waited for a thread that sleeps in the opening of its pipes.
+const OPENING_MILLIS: u64 = 2000;
 
 /// Opens a pipe both ways; none where that failed, or it is not the one that was looked at.
 pub(crate) fn both_ways(files: &HostRuntime, pipe: &Pipe) -> Option<File> {
@@ -51,4 +58,27 @@ pub(crate) fn write_some(mut file: &File, bytes: &[u8]) -> Option<usize>
         Ok(n) if n > 0 => Some(n),
         _ => None,
     }
+}
+
+/// Lets in the thread of a session that is to end, where it sleeps in the opening of its pipes: has
+/// their other ends until the session has ended, which does nothing behind its opening. Whether it
+/// has ended.
+pub(crate) fn let_in<R: Wait>(rt: &R, files: &HostRuntime, pipes: &Pipes) -> bool {
+    let (Some(replies), Some(calls)) = (
+        both_ways(files, &pipes.replies),
+        both_ways(files, &pipes.calls),
+    ) else {
+        return false;
+    };
+    let mut has_left = false;
+    for _ in 0..OPENING_MILLIS {
+        if let Presence::Left(_) = pipes.attendance.now(rt).presence {
+            has_left = true;
+            break;
+        }
+        thread::sleep(files, Duration::from_millis(1));
+    }
+    drop(replies);
+    drop(calls);
+    has_left
 }

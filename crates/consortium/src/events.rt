@@ -10,6 +10,7 @@ use crate::pipes::Shut;
 use jiff::Timestamp;
 use live_session::SessionEnd;
 use std::alloc::{AllocError, Global};
+use std::collections::VecDeque;
 use std::io::Write;
 use std::sync::{Condvar, Mutex, Wait};
 use std::time::SystemTime;
@@ -18,7 +19,10 @@ use std::time::SystemTime;
 /// digits.
 const LINE_ROOM: usize = 192;
 
-/// Why a process has left.
+/// So many events may wait to be written before one of a process that goes or comes again is lost.
+const ROOM_AGAIN: usize = 1024;
+
+/// Why a process has gone or left.
 #[derive(Clone, Copy)]
 pub(crate) enum Why {
     /// Its pipes were not opened.
@@ -52,8 +56,10 @@ impl Why {
 pub(crate) enum Event<'a> {
     /// So many processes are served from now on.
     Serving(u32),
-    /// A process has opened its pipes.
+    /// A process has opened its pipes, the first time or again.
     Came(&'a str),
+    /// The session of a process rests, after so many calls, and why.
+    Gone(&'a str, u64, Why),
     /// The session of a process has ended, after so many calls, and why.
     Left(&'a str, u64, Why),
     /// The book is not gone on with, and why.
@@ -75,18 +81,16 @@ struct Time {
     now: Option<SystemTime>,
 }
 
-// The events so far.
+// The events that are still to be written, and what they came to so far.
 #[derive(Drop)]
 struct Log<'a> {
-    events: Vec<Entry<'a>>,
-    // How many of them were written.
-    written: usize,
+    events: VecDeque<Entry<'a>>,
     calls: u64,
     // The first process that was shut out.
     shut_out: Option<&'a str>,
     // No event comes any more.
     is_over: bool,
-    // An event found no room. There is room for all.
+    // An event found no room. There is room for all but those of processes that go or come again.
     is_lost: bool,
 }
 
@@ -123,6 +127,10 @@ fn put_line(line: &mut String, entry: Entry) -> Result<(), AllocError> {
     match entry.event {
         Event::Serving(processes) => write!(line, "serving {processes} processes\n"),
         Event::Came(name) => write!(line, "{name} came\n"),
+        Event::Gone(name, calls, why) => {
+            let text = why.text();
+            write!(line, "{name} gone after {calls} calls: {text}\n")
+        }
         Event::Left(name, calls, why) => {
             let text = why.text();
             write!(line, "{name} left after {calls} calls: {text}\n")
@@ -170,16 +178,18 @@ impl<'a> Log<'a> {
                 self.shut_out = Some(name);
             }
         }
-        if self.events.push(entry).is_err() {
+        if self.events.push_back(entry).is_err() {
             self.is_lost = true;
         }
     }
 
-    // The next event that is to be written; none where there is none any more.
-    fn next(&mut self) -> Option<Entry<'a>> {
-        let entry = self.events.get(self.written).copied()?;
-        self.written = self.written.saturating_add(1);
-        Some(entry)
+    // An event of a process that goes or comes again.
+    fn add_again(&mut self, entry: Entry<'a>) {
+        if self.events.len() < ROOM_AGAIN {
+            self.add(entry);
+        } else {
+            self.is_lost = true;
+        }
     }
 }
 
@@ -191,11 +201,11 @@ impl<'a> Events<'a> {
         processes: usize,
         clock: Option<&'a HostRuntime>,
     ) -> Result<Events<'a>, AllocError> {
-        let room = processes.saturating_mul(2).saturating_add(3);
-        let events = Vec::with_capacity(alloc, room)?;
+        let once = processes.saturating_mul(2).saturating_add(3);
+        let room = once.saturating_add(ROOM_AGAIN);
+        let events = VecDeque::with_capacity(alloc, room)?;
         let log = Log {
             events,
-            written: 0,
             calls: 0,
             shut_out: None,
             is_over: false,
@@ -228,6 +238,15 @@ impl<'a> Events<'a> {
         self.bell.notify_one();
     }
 
+    /// The same of a process that goes or comes again. Where nobody reads for long it is lost.
+    pub(crate) fn tell_again<R: Wait>(&self, rt: &R, event: Event<'a>) {
+        let time = self.time();
+        let mut guard = self.log.lock(rt);
+        (*guard).add_again(Entry { event, time });
+        drop(guard);
+        self.bell.notify_one();
+    }
+
     /// No event comes any more, but, where all have ended, that.
     pub(crate) fn end<R: Wait>(&self, rt: &R, have_ended: bool) {
         let time = self.time();
@@ -250,10 +269,10 @@ impl<'a> Events<'a> {
     // Waits for an event; none where none comes any more.
     fn next<R: Wait>(&self, rt: &R) -> Option<Entry<'a>> {
         let guard = self.log.lock(rt);
-        let mut guard = self.bell.wait_while(rt, guard, |log| {
-            log.written >= log.events.len() && !log.is_over
-        });
-        (*guard).next()
+        let mut guard = self
+            .bell
+            .wait_while(rt, guard, |log| log.events.is_empty() && !log.is_over);
+        (*guard).events.pop_front()
     }
 
     /// Writes the events as they come, until none comes any more. False where one was not written.

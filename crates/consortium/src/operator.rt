@@ -13,7 +13,7 @@
 
 use crate::answers::{DONE, Refusal, bad_line, put_all, put_pong, put_process};
 use crate::attendance::{LastWord, Presence};
-use crate::ends::{both_ways, write_lf, write_some};
+use crate::ends::{both_ways, let_in, write_lf, write_some};
 use crate::events::BookLength;
 use crate::orders::{Order, OrderLine};
 use crate::pipes::Pipes;
@@ -24,9 +24,6 @@ use std::fs::File;
 use std::sync::{Mutex, Wait};
 use std::thread;
 use std::time::Duration;
-
-// How many milliseconds it is waited for a thread that sleeps in the opening of its pipes.
-const OPENING_MILLIS: u64 = 2000;
 
 // How many milliseconds it is rested where the operator's lines can't be read.
 const REST_MILLIS: u64 = 100;
@@ -249,32 +246,10 @@ impl<'o, 'q, 'g, 'n, R: AllocGlobal + Wait> Operator<'o, 'q, 'g, 'n, R> {
     fn wake(&self, pipes: &Pipes<'n>) -> bool {
         let attending = pipes.attendance.now(self.rt);
         match attending.presence {
-            Presence::NeverCame => self.let_in(pipes),
+            Presence::NeverCame | Presence::Gone(_) => let_in(self.rt, self.files, pipes),
             Presence::Here if attending.is_reading => write_lf(self.files, &pipes.calls),
             Presence::Here | Presence::Left(_) => true,
         }
-    }
-
-    // Has the other ends of both pipes until the session has ended, which does nothing behind its
-    // opening.
-    fn let_in(&self, pipes: &Pipes<'n>) -> bool {
-        let (Some(replies), Some(calls)) = (
-            both_ways(self.files, &pipes.replies),
-            both_ways(self.files, &pipes.calls),
-        ) else {
-            return false;
-        };
-        let mut has_left = false;
-        for _ in 0..OPENING_MILLIS {
-            if let Presence::Left(_) = pipes.attendance.now(self.rt).presence {
-                has_left = true;
-                break;
-            }
-            thread::sleep(self.files, Duration::from_millis(1));
-        }
-        drop(replies);
-        drop(calls);
-        has_left
     }
 }
 

@@ -3,6 +3,7 @@
 //! What the sessions come to says the contract of `serve_on`; the pipes, and so this, have none.
 ghost use Rattle.program_line.specs.Kinds.{Opens};
 
+use crate::attendance::Company;
 use crate::book_file::{Lasting, NewBook, new_book, take_away};
 use crate::chain::{HeldChain, HeldFile, Unentered};
 use crate::desk::{desks_at, peers_at};
@@ -205,7 +206,8 @@ impl<'a, R: AllocGlobal + Threads + Wait + Sync> PipeServer<'a, R> {
             Ok(lines) => lines,
             Err(refused) => return end(err, Ending::from(NoMemory::from(refused))),
         };
-        let desks = match desks_at(rt, alloc, self.files, all, events) {
+        let company = Company::of(policy.processes());
+        let desks = match desks_at(rt, alloc, self.files, all, events, &company) {
             Ok(desks) => desks,
             Err(refused) => return end(err, Ending::from(NoMemory::from(refused))),
         };

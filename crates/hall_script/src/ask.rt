@@ -20,6 +20,12 @@ pub enum Ask {
     Wait(u64),
     /// How far the book has come.
     Head,
+    /// This number, again.
+    Ping(u64),
+    /// Which requests of the process are not taken.
+    Open,
+    /// Which number its next request gets.
+    Next,
     /// The end of its session.
     Leave,
 }
@@ -46,6 +52,17 @@ fn next_asked(
         end_of(words)?;
         return Ok(Ask::Head);
     }
+    if first == b"ping".as_slice() {
+        return Ok(Ask::Ping(last_number_in(words, u64::MAX)?));
+    }
+    if first == b"open".as_slice() {
+        end_of(words)?;
+        return Ok(Ask::Open);
+    }
+    if first == b"next".as_slice() {
+        end_of(words)?;
+        return Ok(Ask::Next);
+    }
     if first == b"leave".as_slice() {
         end_of(words)?;
         return Ok(Ask::Leave);
@@ -71,7 +88,7 @@ fn next_ask(memory: &mut Memory, policy: &Policy, words: &mut Parts) -> Result<A
 ///
 /// A call is said as `read_call` reads it, without the process: `post C KIND FIELDS`, with
 /// `as LABEL V ..` behind it, or `take REQUEST`, or `info C`. Beside it there are `wait REQUEST`,
-/// `head` and `leave`. Out of memory comes as there.
+/// `head`, `ping N`, `open`, `next` and `leave`. Out of memory comes as there.
 #[tactic(auto, unfolding(crate::specs::Asks::ask_said))]
 pub fn read_ask(alloc: Global, policy: &Policy, line: &[u8]) -> Result<Ask, LineFault>
     ensures ask { Gives result (ask_said policy.now.dataset_names line.now) }

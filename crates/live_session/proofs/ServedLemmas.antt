@@ -17,11 +17,11 @@ use Rattle.live_session.specs.Joining.{HasServed, AllServed, handed, passes_of, 
 use Rattle.live_session.specs.Joining.{passes_in, end_of, ends_of, end_in, ends_in, IsFresh}
 use Rattle.live_session.specs.Joining.{ArePrepared, HaveEnded}
 use Rattle.live_session.specs.Hearing.{DeskLog}
-use Rattle.live_session.specs.Sessions.{Stood, Serves, ServesIfBegun, IsWithin, and_untold, made}
+use Rattle.live_session.specs.Sessions.{Stood, IsWithin}
+use Rattle.live_session.specs.Sittings.{at, Sits, SitsIfBegun}
 use Rattle.live_session.specs.declared.ending.Closing.{Closing}
-use Rattle.live_session.proofs.SessionLemmas.{made_posts, within_fewer}
+use Rattle.live_session.proofs.SittingLemmas.{sits_posts}
 use Rattle.live_session.specs.Served.{SessionOf, ServedAll}
-use Rattle.hall_script.specs.Devices.{Used, used}
 use Rattle.live_session.specs.declared.peer.Peer.{Peer}
 use Rattle.live_session.specs.declared.peer.Session.{Session}
 use Rattle.live_session.specs.declared.run.Ended.{Ended}
@@ -100,18 +100,19 @@ refused (Err e) told P none h = tt
 
 -- no more posts of a process count than its session made calls
 session_posts : {S O : Type 0} (stood : ChineseWall → List Entry → Option Covered → Type 0)
-    (most : Option ℕ) (heard : S → DeskLog) (wall : ChineseWall) (door : Doorway)
-    (run : List Entry) (p : ℕ) (pass : Known) (source : Used S) (sink : Used O)
-    (closing : Closing) → calls_of p run ≡ calls_of p pass.seen →
-    Serves stood most heard wall source sink (new_pass door p) pass closing →
+    (most : Option ℕ) (fails : S → ℕ) (left : S → Option (List ℕ)) (heard : S → DeskLog)
+    (failures : O → ℕ) (contents : O → Option (List ℕ)) (wall : ChineseWall) (door : Doorway)
+    (run : List Entry) (p : ℕ) (pass : Known) (peer : Peer S O) (session : Session S O) →
+    calls_of p run ≡ calls_of p pass.seen →
+    Sits stood most fails left heard failures contents wall
+    (at peer.source peer.sink (new_pass door p)) (at session.peer.source session.peer.sink pass)
+    session.closing →
     IsWithin most (length (posts (calls_of p run)))
-session_posts stood most heard wall door run p pass source sink closing own s =
-    let all = and_untold s.untold s.told in
-    let few = made_posts p all in
-    let same : calls_of p run ≡ made p all = own ∙ s.acted.sees.own ∙ append-nil (made p all) in
-    let posted = ap (λ (l : List Entry). length (posts l)) same in
-    let counted = s.counted in
-    within_fewer most (length (posts (calls_of p run))) closing.calls (omega arith) s.within
+session_posts stood most fails left heard failures contents wall door run p pass peer session own
+    s = subst (λ (l : List Entry). IsWithin most (length (posts l))) (sym own)
+    (sits_posts stood most fails left heard failures contents wall p
+    (at peer.source peer.sink (new_pass door p)) (at session.peer.source session.peer.sink pass)
+    session.closing refl (omega arith) s)
 
 same_append : {A : Type 0} (xs ys : List A) (x y : A) → xs ≡ ys → x ≡ y →
     xs ++ x ∷ [] ≡ ys ++ y ∷ []
@@ -259,23 +260,23 @@ module _ (stood : ChineseWall → List Entry → Option Covered → Type 0)
         let jobs_are = many_jobs in
         let low : i < length jobs = omega arith in
         let in_all : i < length h.all = omega arith in
-        let at = served_at jobs h.all i low h.served in
-        let j = at.job in
-        let x = at.played in
+        let here = served_at jobs h.all i low h.served in
+        let j = here.job in
+        let x = here.played in
         let k = x.pass in
         let many = ap length h.passes ∙ length-map h.all (λ (y : Played M S O). y.pass) in
         let in_passes : i < length ended.passes.items = omega arith in
         let pass_is : get_or ended.passes.items i k ≡ k =
-        pass_in i k x in_all ∙ ap (λ (y : Played M S O). y.pass) (at.played_is x) in
+        pass_in i k x in_all ∙ ap (λ (y : Played M S O). y.pass) (here.played_is x) in
         let own : HasMade run k = subst (HasMade run) pass_is (each i k in_passes) in
         let pass : j.pass ≡ new_pass door i =
-        ap (λ (y : Job M S O). y.pass) (sym (at.job_is j))
+        ap (λ (y : Job M S O). y.pass) (sym (here.job_is j))
         ∙ pass_at door (processes wall) jobs i j p.passes low in
-        let number : k.process ≡ i = at.has.same.1 ∙ ap (λ (y : Known). y.process) pass in
+        let number : k.process ≡ i = here.has.same.1 ∙ ap (λ (y : Known). y.process) pass in
         let peer_is : get_or peers i d ≡ j.peer =
         ap (λ (l : List (Peer S O)). get_or l i d) (sym p.peers_are)
         ∙ get_or-map (λ (y : Job M S O). y.peer) jobs i j d low
-        ∙ ap (λ (y : Job M S O). y.peer) (at.job_is j) in
+        ∙ ap (λ (y : Job M S O). y.peer) (here.job_is j) in
         let session = get_or ended.sessions.items i e in
         let none = end_in x in
         let in_sessions = many_sessions in
@@ -283,33 +284,29 @@ module _ (stood : ChineseWall → List Entry → Option Covered → Type 0)
         sym (get_or-map (end_of {S = S} {O = O}) ended.sessions.items i e none (omega arith))
         ∙ ap (λ (l : List (Peer S O × Option Closing)). get_or l i none) h.sessions
         ∙ get_or-map (end_in {M = M} {S = S} {O = O}) h.all i x none in_all
-        ∙ ap (end_in {M = M} {S = S} {O = O}) (at.played_is x) in
+        ∙ ap (end_in {M = M} {S = S} {O = O}) (here.played_is x) in
         let wall_is : j.pass.door.policy ≡ wall =
         ap (λ (y : Known). y.door.policy) pass ∙ p.policy in
         let bound_is : j.most ≡ most =
-        subst (λ (y : Job M S O). y.most ≡ most) (at.job_is j) (p.bounds i j low) in
-        let served : Serves stood most heard wall
-        (used fails left (get_or peers i d).source session.peer.source)
-        (used failures contents (get_or peers i d).sink session.peer.sink) (new_pass door i) k
-        session.closing =
-        subst (λ (y : Peer S O). Serves stood most heard wall
-        (used fails left y.source session.peer.source)
-        (used failures contents y.sink session.peer.sink) (new_pass door i) k session.closing)
+        subst (λ (y : Job M S O). y.most ≡ most) (here.job_is j) (p.bounds i j low) in
+        let served : Sits stood most fails left heard failures contents wall
+        (at (get_or peers i d).source (get_or peers i d).sink (new_pass door i))
+        (at session.peer.source session.peer.sink k) session.closing =
+        subst (λ (y : Peer S O). Sits stood most fails left heard failures contents wall
+        (at y.source y.sink (new_pass door i)) (at session.peer.source session.peer.sink k)
+        session.closing)
         (sym peer_is)
-        (subst (λ (y : Peer S O × Option Closing). ServesIfBegun stood most heard wall
-        (used fails left j.peer.source y.0.source)
-        (used failures contents j.peer.sink y.0.sink)
-        (new_pass door i) k y.1) (sym told)
-        (subst (λ (b : Known). ServesIfBegun stood most heard wall
-        (used fails left j.peer.source x.peer.source)
-        (used failures contents j.peer.sink x.peer.sink) b k x.ended) pass
-        (subst (λ (w : ChineseWall). ServesIfBegun stood most heard w
-        (used fails left j.peer.source x.peer.source)
-        (used failures contents j.peer.sink x.peer.sink) j.pass k x.ended) wall_is
-        (subst (λ (m : Option ℕ). ServesIfBegun stood m heard j.pass.door.policy
-        (used fails left j.peer.source x.peer.source)
-        (used failures contents j.peer.sink x.peer.sink) j.pass k x.ended) bound_is
-        at.has.so)))) in
+        (subst (λ (y : Peer S O × Option Closing). SitsIfBegun stood most fails left heard failures
+        contents wall (at j.peer.source j.peer.sink (new_pass door i))
+        (at y.0.source y.0.sink k) y.1) (sym told)
+        (subst (λ (b : Known). SitsIfBegun stood most fails left heard failures contents wall
+        (at j.peer.source j.peer.sink b) (at x.peer.source x.peer.sink k) x.ended) pass
+        (subst (λ (w : ChineseWall). SitsIfBegun stood most fails left heard failures contents w
+        (at j.peer.source j.peer.sink j.pass) (at x.peer.source x.peer.sink k) x.ended) wall_is
+        (subst (λ (m : Option ℕ). SitsIfBegun stood m fails left heard failures contents
+        j.pass.door.policy (at j.peer.source j.peer.sink j.pass)
+        (at x.peer.source x.peer.sink k) x.ended) bound_is
+        here.has.so)))) in
         let mine : calls_of i run ≡ calls_of i k.seen =
         subst (λ (q : ℕ). calls_of q run ≡ calls_of q k.seen) number own.own in
         record {
@@ -317,10 +314,8 @@ module _ (stood : ChineseWall → List Entry → Option Covered → Type 0)
           begins = own.begins;
           own = mine;
           served = served;
-          posted = session_posts stood most heard wall door run i k
-              (used fails left (get_or peers i d).source session.peer.source)
-              (used failures contents (get_or peers i d).sink session.peer.sink) session.closing mine
-              served;
+          posted = session_posts stood most fails left heard failures contents wall door run i k
+              (get_or peers i d) session mine served;
         }
 
 module _ {M : Type 0} (stands : ChineseWall → M → List Entry → Type 0) (booked : M → Option Covered)

@@ -25,7 +25,7 @@ use Rattle.run_model.specs.Contributions.{Contribution, posts_of}
 use Rattle.run_model.specs.Runs.{Entry, contributions, contribution_in, posts}
 use Rattle.run_model.specs.Replies.{Legal}
 use Rattle.hall_script.specs.declared.ask.Ask.{Ask}
-use Rattle.hall_script.specs.declared.ask.Ask.TheVariants.{Act as ToAct, Wait, Head as AskHead}
+use Rattle.hall_script.specs.declared.ask.Ask.TheVariants.{Act as ToAct, Wait}
 use Rattle.hall_script.specs.declared.ask.Ask.TheVariants.{Leave}
 use Rattle.hall_script.specs.Devices.{Used, used, bytes_before, bytes_after, NeverFailed}
 use Rattle.hall_script.specs.Devices.{IsWritten, BrokeOff}
@@ -33,7 +33,6 @@ use Rattle.hall_script.specs.Replies.{reply_line}
 use Rattle.hall_turn.specs.declared.answer.Answer.{Answer}
 use Rattle.hall_turn.specs.declared.answer.Answer.TheVariants.{Reply as Replied, Exhausted as Late}
 use Rattle.hall_turn.specs.Runs.{Continues, calls_of}
-use Rattle.hall_turn.specs.declared.head.Head.{Head}
 use Rattle.hall_turn.specs.Receipts.{Covered}
 use Rattle.hall_turn.specs.Known.{Known, Doorway}
 use Rattle.hall_turn.specs.Answers.{IsSamePass, Answered, Gives, GivesAt}
@@ -45,8 +44,10 @@ use Rattle.live_session.specs.declared.acting.Came.TheVariants as cames
 use Rattle.live_session.specs.declared.answer.Next.{Next}
 use Rattle.live_session.specs.declared.answer.Next.TheVariants as nexts
 use Rattle.live_session.specs.Lines.{said}
-use Rattle.live_session.specs.Sessions.{Told, done, waited, asked_head, asked_nothing, said_by}
-use Rattle.live_session.specs.Sessions.{called, AsksForCall, TellsHead, shown_last}
+use Rattle.live_session.specs.Sessions.{Uncalled, its_head, its_number, its_open, its_next, its_fault}
+use Rattle.live_session.specs.Sessions.{asked_by, IsSo, TellsWhatIs, calls_by}
+use Rattle.live_session.specs.Sessions.{Told, done, waited, uncalled, said_by}
+use Rattle.live_session.specs.Sessions.{called, AsksForCall, shown_last}
 use Rattle.live_session.specs.Sessions.{calls_for, made, answer, answers, SeesMore, Acted, EndsAt}
 use Rattle.live_session.specs.Sessions.{SaysLast, IsCutIn, BreaksOff, EndsSo, and_untold, Stood}
 use Rattle.live_session.specs.Sessions.{last_call, StoodBehind, StoodFor, AreBooked, EndsUnbooked}
@@ -54,7 +55,7 @@ use Rattle.live_session.specs.Sessions.{Serves, IsPrompt, IsShown, counts_as, ca
 use Rattle.live_session.specs.Sessions.{IsWithin, IsSpent}
 use Rattle.live_session.specs.Hearing.{DeskLog, Shown, Tells}
 use Rattle.live_session.specs.Steps.{ComesTo, MayHaveCome, reply_to}
-use Rattle.live_session.specs.Steps.{CameTo, Waited}
+use Rattle.live_session.specs.Steps.{CameTo, ComesUncalled, Waited}
 use Rattle.live_session.specs.Steps.{came_of, line_to, next_after, AnswersSo, WritesAnswer}
 use Rattle.live_session.specs.Steps.{PutsAnswer, AnswersLine, SoFar, Stops, StopsSo, Holds}
 use Rattle.live_session.specs.Steps.{behind, IsUnread, Receipts, Showing, Shows, receipts, showing}
@@ -202,13 +203,9 @@ counted_still : (told : List Told) (k l m : ℕ) → Counted told (counting k l)
     IsUncounted (counting l m) → Counted told (counting k m)
 counted_still told k l m s t = omega arith
 
-counted_bad : (bad : BadLine) (k l : ℕ) → IsUncounted (counting k l) →
-    Counted (asked_nothing bad ∷ []) (counting k l)
-counted_bad bad k l t = omega arith
-
-counted_head : (head : Option Head) (k l : ℕ) → IsUncounted (counting k l) →
-    Counted (asked_head head ∷ []) (counting k l)
-counted_head head k l t = omega arith
+counted_uncalled : (it : Uncalled) (k l : ℕ) → IsUncounted (counting k l) →
+    Counted (uncalled it ∷ []) (counting k l)
+counted_uncalled it k l t = omega arith
 
 pub counted_untold : (untold : Option Told) (later first : List Told) (k l m : ℕ) →
     Counted first (counting k l) → Counted (and_untold untold later) (counting l m) →
@@ -226,9 +223,9 @@ counted_wait : (request again : ℕ) (reply : Reply) (k : ℕ) →
 counted_wait request again reply k = omega arith
 
 -- from the first line on
-pub counted_all : (told : List Told) (calls : ℕ) → Counted told (counting 0 calls) →
-    calls ≡ calls_in told
-counted_all told calls s = omega arith
+pub counted_all : (told : List Told) (base calls : ℕ) → Counted told (counting base calls) →
+    calls ≡ calls_in told + base
+counted_all told base calls s = omega arith
 
 -- of the calls for these lines no more are posts that count than the lines are
 one_if_any : (g : Option (Contribution Contents)) → length (posts_of (cons_option g [])) ≤ 1
@@ -244,7 +241,7 @@ no_posts : (p request again : ℕ) →
 no_posts p request zero = refl
 no_posts p request (suc again) = no_posts p request again
 
-posts-append : (later first : List Entry) →
+pub posts-append : (later first : List Entry) →
     length (posts (later ++ first)) ≡ length (posts later) + length (posts first)
 posts-append later first =
     let all = length-map (contributions (later ++ first)) (λ (g : Contribution Contents). g.post) in
@@ -257,8 +254,7 @@ posts-append later first =
 line_posts : (p : ℕ) (told : Told) → length (posts (calls_for p told)) ≤ counts_as told
 line_posts p (done act reply) = call_posts p act reply
 line_posts p (waited request again reply) = let none = no_posts p request again in omega arith
-line_posts p (asked_head head) = omega arith
-line_posts p (asked_nothing bad) = omega arith
+line_posts p (uncalled it) = omega arith
 
 pub made_posts : (p : ℕ) (told : List Told) → length (posts (made p told)) ≤ calls_in told
 made_posts p [] = omega arith
@@ -301,13 +297,31 @@ last_then : (last : Option Covered) (later first : List Shown) →
 last_then last [] first = refl
 last_then last (show ∷ later) first = refl
 
--- a line that makes a call is told no head
-no_head : (last : Option Covered) (p : ℕ) (told : Told) → last_call p told ≢ None →
-    TellsHead last told
-no_head last p (done act reply) calls = tt
-no_head last p (waited request again reply) calls = tt
-no_head last p (asked_head head) calls = absurd (calls refl)
-no_head last p (asked_nothing bad) calls = tt
+-- a line that makes a call is told nothing else
+told_else : (last : Option Covered) (p : ℕ) (calls : List Entry) (told : Told) →
+    last_call p told ≢ None → TellsWhatIs last p calls told
+told_else last p calls (done act reply) called = tt
+told_else last p calls (waited request again reply) called = tt
+told_else last p calls (uncalled it) called = absurd (called refl)
+
+-- what is so of one receipt and these calls is so of the same
+still_so : (last next : Option Covered) (p q : ℕ) (first later : List Entry) (told : Told) →
+    last ≡ next → p ≡ q → first ≡ later → TellsWhatIs last p first told →
+    TellsWhatIs next q later told
+still_so last next p q first later told same number calls h =
+    subst (λ (c : Option Covered). TellsWhatIs c q later told) same
+    (subst (λ (r : ℕ). TellsWhatIs last r later told) number
+    (subst (λ (l : List Entry). TellsWhatIs last p l told) calls h))
+
+-- the calls by some lines, behind those of others
+calls_then : (a b : Known) (first later : List Told) → SeesMore a (made a.process first) b →
+    calls_by b later ≡ calls_by a (later ++ first)
+calls_then a b first later s =
+    ap (λ (p : ℕ). made p later ++ calls_of p b.seen) s.same.1
+    ∙ ap (λ (l : List Entry). made a.process later ++ l) s.own
+    ∙ sym (append_assoc (made a.process later) (made a.process first) (calls_of a.process a.seen))
+    ∙ ap (λ (l : List Entry). l ++ calls_of a.process a.seen)
+    (sym (made-append a.process later first))
 
 -- ---- the machine
 
@@ -418,14 +432,14 @@ module _ (stood : ChineseWall → List Entry → Option Covered → Type 0) wher
       AreBooked stood wall written a last told shows b →
       AreBooked stood wall written a last told shows d
   booked_on wall written a b d last [] shows more h = h
-  booked_on wall written a b d last (told ∷ past) shows more (newest, earlier, is, h, now, head) = (
+  booked_on wall written a b d last (told ∷ past) shows more (newest, earlier, is, h, now, so) = (
     newest,
     earlier,
     is,
     booked_on wall written a b d last past earlier more h,
     shown_on wall written a b d (last_call a.process told) (made a.process (told ∷ past)) past
         newest more now,
-    head,
+    so,
   )
 
   pub booked_then : (wall : ChineseWall) (old mid : Option (List ℕ)) (a b d : Known)
@@ -439,15 +453,16 @@ module _ (stood : ChineseWall → List Entry → Option Covered → Type 0) wher
       (ap (λ (l : List Shown). l ++ shows) (sym none))
       (booked_on wall old a b d last first shows on h)
   booked_then wall old mid a b d last since first (told ∷ later) shows more s w k h
-      (newest, earlier, is, t, now, head) on = (
+      (newest, earlier, is, t, now, so) on = (
         newest,
         earlier ++ shows,
         ap (λ (l : List Shown). l ++ shows) is ∙ append_assoc newest earlier shows,
         booked_then wall old mid a b d last since first later shows earlier s w k h t on,
         shown_then wall old mid a b d first later told newest s w now,
-        subst (λ (c : Option Covered). TellsHead c told)
-            (ap (λ (c : Option Covered). shown_last c earlier) k
-            ∙ sym (last_then last earlier shows)) head,
+        still_so (shown_last since earlier) (shown_last last (earlier ++ shows)) b.process a.process
+            (calls_by b later) (calls_by a (later ++ first)) told
+            (ap (λ (c : Option Covered). shown_last c earlier) k ∙ sym (last_then last earlier shows))
+            s.same.1 (calls_then a b first later s) so,
       )
 
   -- the receipt of a line's last call was shown before its answer
@@ -470,8 +485,7 @@ module _ (stood : ChineseWall → List Entry → Option Covered → Type 0) wher
         (so (called b.process (Take request) reply) refl),
     Appends-nil written,
   )
-  is_shown wall written b d (asked_head head) covers calls so = absurd (calls refl)
-  is_shown wall written b d (asked_nothing bad) covers calls so = absurd (calls refl)
+  is_shown wall written b d (uncalled it) covers calls so = absurd (calls refl)
 
   -- the newest line of later ones
   unbooked_then : (a b d : Known) (rest : List Word) (first later : List Told) (newest : Told) →
@@ -529,6 +543,19 @@ over_of most k before (inl spent) seen = inl spent
 over_of most k before (inr many) seen =
     let fewer = fewer_left (λ (e : Entry). e.call.process == before.process) before.seen in
     inr (omega arith)
+
+-- what a line is told for which no call is made
+pub comes_uncalled : (before : Known) (ask : Ask) (it : Uncalled) (last : Option Covered) (k : ℕ) →
+    Legal before.door.policy before.seen → Ok ask ≡ asked_by it →
+    IsSo last before.process (calls_of before.process before.seen) it →
+    ComesUncalled before (Ok ask) it last last (counting k k) before
+comes_uncalled before ask it last k legal says so = record {
+  says = says;
+  so = so;
+  sees = sees_none before legal;
+  uncounted = refl;
+  kept = refl;
+}
 
 -- the session may make no call more
 pub spent_came : (stood : ChineseWall → List Entry → Option Covered → Type 0) (most : Option ℕ)
@@ -709,16 +736,21 @@ replied : (wall : ChineseWall) (told : Told) (reply : Reply) → reply_to told �
 replied wall (done act r) reply e = let k : r ≡ reply = cc in ap (reply_line wall) (sym k)
 replied wall (waited request again r) reply e =
     let k : r ≡ reply = cc in ap (reply_line wall) (sym k)
-replied wall (asked_head head) reply e = absurd cc
-replied wall (asked_nothing bad) reply e = absurd cc
+replied wall (uncalled it) reply e = absurd cc
 
 module _ (stood : ChineseWall → List Entry → Option Covered → Type 0) (most : Option ℕ) where
   -- a line that asks for nothing: nothing was made
   pub comes_bad : (wall : ChineseWall) (before : Known) (line : Result Ask BadLine)
-      (bad : BadLine) → wall ≡ before.door.policy → Legal wall before.seen → line ≡ Err bad →
-      (line ≡ Err bad) × SeesMore before [] before
-  comes_bad wall before line bad is legal says =
-      (says, sees_none before (subst (λ (w : ChineseWall). Legal w before.seen) is legal))
+      (bad : BadLine) (last : Option Covered) (k : ℕ) → wall ≡ before.door.policy →
+      Legal wall before.seen → line ≡ Err bad →
+      ComesUncalled before line (its_fault bad) last last (counting k k) before
+  comes_bad wall before line bad last k is legal says = record {
+    says = says;
+    so = tt;
+    sees = sees_none before (subst (λ (w : ChineseWall). Legal w before.seen) is legal);
+    uncounted = refl;
+    kept = refl;
+  }
 
   came_answers : (wall : ChineseWall) (before after : Known) (ask : Ask) (it : Came)
       (last receipt : Option Covered) (count : Counting) →
@@ -727,8 +759,14 @@ module _ (stood : ChineseWall → List Entry → Option Covered → Type 0) (mos
       (next_after it)
   came_answers wall before after ask (cames.Reply reply) last receipt count (told, comes, is) =
       (told, comes, replied wall told reply is)
-  came_answers wall before after ask (cames.Head head) last receipt count
-      (is, sees, none, by, same) = (inr (head, ap Ok is, refl, by), sees, none, same)
+  came_answers wall before after ask (cames.Head head) last receipt count comes =
+      (its_head head, comes, refl)
+  came_answers wall before after ask (cames.Pong number) last receipt count comes =
+      (its_number number, comes, refl)
+  came_answers wall before after ask (cames.Open requests) last receipt count comes =
+      (its_open requests.items, comes, refl)
+  came_answers wall before after ask (cames.Next request) last receipt count comes =
+      (its_next request, comes, refl)
   came_answers wall before after ask cames.Left last receipt count (is, sees, none) =
       (ap Ok is, sees, none, refl)
   came_answers wall before after ask cames.Exhausted last receipt count late = (late, refl)
@@ -739,8 +777,14 @@ module _ (stood : ChineseWall → List Entry → Option Covered → Type 0) (mos
       MayHaveCome stood before (Ok ask) count after
   may_have before after ask (cames.Reply reply) last receipt count
       (told, (covers, comes, at, calls, counted), is) = inr (told, Some covers, comes, counted)
-  may_have before after ask (cames.Head head) last receipt count (is, sees, none, by, same) =
-      inl (sees, none)
+  may_have before after ask (cames.Head head) last receipt count comes =
+      inl (comes.sees, comes.uncounted)
+  may_have before after ask (cames.Pong number) last receipt count comes =
+      inl (comes.sees, comes.uncounted)
+  may_have before after ask (cames.Open requests) last receipt count comes =
+      inl (comes.sees, comes.uncounted)
+  may_have before after ask (cames.Next request) last receipt count comes =
+      inl (comes.sees, comes.uncounted)
   may_have before after ask cames.Left last receipt count (is, sees, none) = inl (sees, none)
   may_have before after ask cames.Exhausted last receipt count late =
       inl (late.sees, late.uncounted)
@@ -850,7 +894,7 @@ module _ (stood : ChineseWall → List Entry → Option Covered → Type 0) (mos
               refl,
               refl,
               is_shown stood wall written b d told covers calls comes.so,
-              no_head last b.process told calls,
+              told_else last b.process (calls_by b []) told calls,
             );
         shown = at ∙ sym (ap (λ (k : Option Covered). shown_last last
             (shown_next nexts.Replied k written)) at);
@@ -862,26 +906,15 @@ module _ (stood : ChineseWall → List Entry → Option Covered → Type 0) (mos
       (line : Result Ask BadLine) (text : List ℕ) (last receipt : Option Covered) (k l : ℕ) →
       AnswersSo stood most wall b line text last receipt (counting k l) d nexts.GoesOn →
       Telling wall written b line text last receipt (counting k l) d nexts.GoesOn
-  telling_uncalled wall written b d line text last receipt k l
-      (inl (bad, says, is), sees, none, same) = record {
-        told = asked_nothing bad;
-        says = says;
-        sees = sees;
-        booked = ([], [], refl, refl, refl, tt);
-        shown = same;
-        counted = counted_bad bad k l none;
-        is = is;
-      }
-  telling_uncalled wall written b d line text last receipt k l
-      (inr (head, says, is, by), sees, none, same) = record {
-        told = asked_head head;
-        says = says;
-        sees = sees;
-        booked = ([], [], refl, refl, refl, by);
-        shown = same;
-        counted = counted_head head k l none;
-        is = is;
-      }
+  telling_uncalled wall written b d line text last receipt k l (it, comes, is) = record {
+    told = uncalled it;
+    says = comes.says;
+    sees = comes.sees;
+    booked = ([], [], refl, refl, refl, comes.so);
+    shown = comes.kept;
+    counted = counted_uncalled it k l comes.uncounted;
+    is = is;
+  }
 
   -- one line more was told
   told_more : (wall : ChineseWall) (a b d : Known) (text later : List Word) (line : Word)
@@ -1409,7 +1442,8 @@ took_none zero [] e = refl
 took_none zero (x ∷ buffer) e = refl
 took_none (suc n) buffer e = absurd (omega arith)
 
-module _ (stood : ChineseWall → List Entry → Option Covered → Type 0) (most : Option ℕ) where
+module _ (stood : ChineseWall → List Entry → Option Covered → Type 0) (most : Option ℕ)
+    (base : ℕ) where
   -- the session goes on: all finished lines of what was read were answered
   pub record Going {S O : Type 0} (heard : S → DeskLog) (wall : ChineseWall)
       (source : Used S) (sink : Used O) (before : Known) (kept : Unfinished)
@@ -1420,11 +1454,11 @@ module _ (stood : ChineseWall → List Entry → Option Covered → Type 0) (mos
     pub line : Word
     pub holds : Holds kept line
     pub so_far : SoFar stood most wall before (parts 10 bytes) (line ∷ [])
-        (showing heard source.old source.new None last) sink (counting 0 calls) now
+        (showing heard source.old source.new None last) sink (counting base calls) now
     pub prompt : IsPrompt heard wall source sink bytes so_far.told
 
 module _ (stood : ChineseWall → List Entry → Option Covered → Type 0) (most : Option ℕ)
-    {S O : Type 0} (fails : S → ℕ) (left : S → Option (List ℕ))
+    (base : ℕ) {S O : Type 0} (fails : S → ℕ) (left : S → Option (List ℕ))
     (heard : S → DeskLog) (failures : O → ℕ) (contents : O → Option (List ℕ)) where
   abbrev Reading : S → S → Used S
   Reading old new = used fails left old new
@@ -1434,8 +1468,8 @@ module _ (stood : ChineseWall → List Entry → Option Covered → Type 0) (mos
 
   pub going_none : (wall : ChineseWall) (before : Known) (kept : Unfinished) (source : S)
       (sink : O) → wall ≡ before.door.policy → Legal wall before.seen → Holds kept [] →
-      Going stood most heard wall (Reading source source) (Writing sink sink) before kept None 0
-      before
+      Going stood most base heard wall (Reading source source) (Writing sink sink) before kept None
+      base before
   unfolding so_far_none
   going_none wall before kept source sink is legal h = record {
     bytes = [];
@@ -1444,7 +1478,7 @@ module _ (stood : ChineseWall → List Entry → Option Covered → Type 0) (mos
     line = [];
     holds = h;
     so_far = so_far_none stood most failures contents wall before ([] ∷ [])
-        (receipts heard source None) sink 0 is legal;
+        (receipts heard source None) sink base is legal;
     prompt = prompt_none fails left heard failures contents wall source sink;
   }
 
@@ -1473,7 +1507,7 @@ module _ (stood : ChineseWall → List Entry → Option Covered → Type 0) (mos
   pub going_on : (wall : ChineseWall) (a b d : Known) (kept now : Unfinished)
       (first mid last far : S) (old out new : O) (c e : Option Covered) (l m : ℕ)
       (more : List ℕ) →
-      (g : Going stood most heard wall (Reading first mid) (Writing old out) a kept c l b) →
+      (g : Going stood most base heard wall (Reading first mid) (Writing old out) a kept c l b) →
       fails last ≡ fails mid → Consumes (left mid) (left last) more →
       Tells (heard mid).reads (heard last).reads
       (record { bytes = more; written = contents out } ∷ []) →
@@ -1481,7 +1515,7 @@ module _ (stood : ChineseWall → List Entry → Option Covered → Type 0) (mos
       (line : Word) → Holds now line →
       SoFar stood most wall b (behind g.line (parts 10 more)) (line ∷ [])
       (showing heard last far c e) (Writing out new) (counting l m) d →
-      Going stood most heard wall (Reading first far) (Writing old new) a now e m d
+      Going stood most base heard wall (Reading first far) (Writing old new) a now e m d
   unfolding so_far_then still_shown
   going_on wall a b d kept now first mid last far old out new c e l m more g went read tells same
       unread line h s = record {
@@ -1493,32 +1527,32 @@ module _ (stood : ChineseWall → List Entry → Option Covered → Type 0) (mos
         line = line;
         holds = h;
         so_far = so_far_then stood most failures contents wall a b d g.bytes more g.line (line ∷ [])
-            (receipts heard first None) (receipts heard last c) (receipts heard far e) old out new 0
+            (receipts heard first None) (receipts heard last c) (receipts heard far e) old out new base
             l m (still_shown wall a b (parts 10 g.bytes) (g.line ∷ []) first mid last c
-            (Writing old out) (counting 0 l) same g.so_far) s;
+            (Writing old out) (counting base l) same g.so_far) s;
         prompt = prompt_unread fails left heard failures contents wall first last far old new
             (g.bytes ++ more) (s.told ++ g.so_far.told) unread.reads_same
             (prompt_more stood most fails left heard failures contents wall a b first mid last old out
-            new g.bytes more g.line (showing heard first mid None c) (counting 0 l) g.so_far g.prompt
+            new g.bytes more g.line (showing heard first mid None c) (counting base l) g.so_far g.prompt
             tells s.told);
       }
 
   pub served_to_end : (wall : ChineseWall) (a b : Known) (kept : Unfinished) (first mid last : S)
       (old new : O) (c : Option Covered) (calls : ℕ) (more : List ℕ) → more ≡ [] →
-      Going stood most heard wall (Reading first mid) (Writing old new) a kept c calls b →
+      Going stood most base heard wall (Reading first mid) (Writing old new) a kept c calls b →
       IsWithin most calls →
       fails last ≡ fails mid → Consumes (left mid) (left last) more → IsAtEnd (left last) →
       Tells (heard mid).reads (heard last).reads
       (record { bytes = more; written = contents new } ∷ []) →
       (heard last).shows ≡ (heard mid).shows →
-      Serves stood most heard wall (Reading first last) (Writing old new) a b
+      Serves stood most base heard wall (Reading first last) (Writing old new) a b
       (record { end = EndOfStream; calls = calls })
   unfolding still_shown
   served_to_end wall a b kept first mid last old new c calls more none g within went read end tells
       same =
       let all = ap (λ l. g.bytes ++ l) none ∙ append-nil g.bytes in
       let s = still_shown wall a b (parts 10 g.bytes) (g.line ∷ []) first mid last c
-      (Writing old new) (counting 0 calls) same g.so_far in record {
+      (Writing old new) (counting base calls) same g.so_far in record {
         bytes = g.bytes;
         read = subst (Consumes (left first) (left last)) all
             (Consumes-trans (left first) (left mid) (left last) g.bytes more g.read read);
@@ -1533,20 +1567,20 @@ module _ (stood : ChineseWall → List Entry → Option Covered → Type 0) (mos
         prompt = subst (λ (l : List ℕ). IsPrompt heard wall (Reading first last) (Writing old new) l
             g.so_far.told) all
             (prompt_more stood most fails left heard failures contents wall a b first mid last old new
-            new g.bytes more g.line (showing heard first mid None c) (counting 0 calls) g.so_far
+            new g.bytes more g.line (showing heard first mid None c) (counting base calls) g.so_far
             g.prompt tells []);
-        counted = counted_all g.so_far.told calls g.so_far.counted;
+        counted = counted_all g.so_far.told base calls g.so_far.counted;
         within = within;
         ends = (went ∙ g.went, end, refl, refl, g.so_far.written);
       }
 
   pub served_till_fault : (wall : ChineseWall) (a b : Known) (kept : Unfinished)
       (first mid last : S) (old new : O) (c : Option Covered) (calls : ℕ) →
-      Going stood most heard wall (Reading first mid) (Writing old new) a kept c calls b →
+      Going stood most base heard wall (Reading first mid) (Writing old new) a kept c calls b →
       IsWithin most calls →
       fails last ≡ fails mid + 1 → Keeps (left mid) (left last) →
       Tells (heard mid).reads (heard last).reads [] → (heard last).shows ≡ (heard mid).shows →
-      Serves stood most heard wall (Reading first last) (Writing old new) a b
+      Serves stood most base heard wall (Reading first last) (Writing old new) a b
       (record { end = ReadFailed; calls = calls })
   unfolding still_shown
   served_till_fault wall a b kept first mid last old new c calls g within once keeps tells same = record {
@@ -1559,11 +1593,11 @@ module _ (stood : ChineseWall → List Entry → Option Covered → Type 0) (mos
     acted = g.so_far.acted;
     shows = g.so_far.shows;
     shown = (still_shown wall a b (parts 10 g.bytes) (g.line ∷ []) first mid last c
-        (Writing old new) (counting 0 calls) same g.so_far).shown.tells;
+        (Writing old new) (counting base calls) same g.so_far).shown.tells;
     booked = g.so_far.booked;
     prompt = prompt_still fails left heard failures contents wall first mid last old new g.bytes
         g.so_far.told g.prompt tells;
-    counted = counted_all g.so_far.told calls g.so_far.counted;
+    counted = counted_all g.so_far.told base calls g.so_far.counted;
     within = within;
     ends = (once ∙ ap (λ (n : ℕ). n + 1) g.went, refl, refl, g.so_far.written);
   }
@@ -1585,7 +1619,7 @@ module _ (stood : ChineseWall → List Entry → Option Covered → Type 0) (mos
   pub served_till_stop : (wall : ChineseWall) (a b d : Known) (kept : Unfinished)
       (first mid last far : S) (old out new : O) (c e : Option Covered) (l m : ℕ)
       (more : List ℕ) (end : SessionEnd) →
-      (g : Going stood most heard wall (Reading first mid) (Writing old out) a kept c l b) →
+      (g : Going stood most base heard wall (Reading first mid) (Writing old out) a kept c l b) →
       IsWithin most m →
       fails last ≡ fails mid → Consumes (left mid) (left last) more →
       Tells (heard mid).reads (heard last).reads
@@ -1593,15 +1627,15 @@ module _ (stood : ChineseWall → List Entry → Option Covered → Type 0) (mos
       (heard last).shows ≡ (heard mid).shows → IsUnread fails left heard last far →
       Stops stood most wall b (behind g.line (parts 10 more)) (showing heard last far c e)
       (Writing out new) (counting l m) d end →
-      Serves stood most heard wall (Reading first far) (Writing old new) a d
+      Serves stood most base heard wall (Reading first far) (Writing old new) a d
       (record { end = end; calls = m })
   unfolding stops_then still_shown
   served_till_stop wall a b d kept first mid last far old out new c e l m more end g within went
       read tells same unread stops =
       let s = stops_then stood most failures contents wall a b d g.bytes more g.line
-      (receipts heard first None) (receipts heard last c) (receipts heard far e) old out new 0 l m
+      (receipts heard first None) (receipts heard last c) (receipts heard far e) old out new base l m
       end (still_shown wall a b (parts 10 g.bytes) (g.line ∷ []) first mid last c (Writing old out)
-      (counting 0 l) same g.so_far) stops in record {
+      (counting base l) same g.so_far) stops in record {
         bytes = g.bytes ++ more;
         read = subst (λ (k : Option (List ℕ)). Consumes (left first) k (g.bytes ++ more))
             (sym unread.left_same)
@@ -1617,9 +1651,9 @@ module _ (stood : ChineseWall → List Entry → Option Covered → Type 0) (mos
         prompt = prompt_unread fails left heard failures contents wall first last far old new
             (g.bytes ++ more) s.told unread.reads_same
             (prompt_more stood most fails left heard failures contents wall a b first mid last old
-            out new g.bytes more g.line (showing heard first mid None c) (counting 0 l) g.so_far
+            out new g.bytes more g.line (showing heard first mid None c) (counting base l) g.so_far
             g.prompt tells stops.told);
-        counted = counted_all (and_untold s.untold s.told) m s.counted;
+        counted = counted_all (and_untold s.untold s.told) base m s.counted;
         within = within;
         ends = ends_so (IsSpent most m) wall first far old new a s.rest s.told s.untold d end
             (unread.fails_same ∙ went ∙ g.went) s.stops;
@@ -1627,10 +1661,10 @@ module _ (stood : ChineseWall → List Entry → Option Covered → Type 0) (mos
 
   -- memory ran out before the first read
   pub served_nothing : (wall : ChineseWall) (before : Known) (source : S) (sink : O) →
-      wall ≡ before.door.policy → Legal wall before.seen →
-      Serves stood most heard wall (Reading source source) (Writing sink sink) before before
-      (record { end = NoMemory; calls = 0 })
-  served_nothing wall before source sink is legal = record {
+      wall ≡ before.door.policy → Legal wall before.seen → IsWithin most base →
+      Serves stood most base heard wall (Reading source source) (Writing sink sink) before before
+      (record { end = NoMemory; calls = base })
+  served_nothing wall before source sink is legal within = record {
     bytes = [];
     read = Consumes-nil (left source);
     lines = [];
@@ -1643,7 +1677,7 @@ module _ (stood : ChineseWall → List Entry → Option Covered → Type 0) (mos
     shown = tells_none (heard source).shows;
     booked = refl;
     prompt = prompt_none fails left heard failures contents wall source sink;
-    counted = refl;
-    within = within_none most;
+    counted = omega arith;
+    within = within;
     ends = (refl, (refl, Appends-nil (contents sink)));
   }

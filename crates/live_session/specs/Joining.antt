@@ -6,7 +6,6 @@ use Rattle.std.specs.declared.thread.PromisedHandle.{PromisedHandle}
 use Rattle.wall_policy.specs.Policy.{ChineseWall}
 use Rattle.run_model.specs.Comms.{processes}
 use Rattle.run_model.specs.Runs.{Entry}
-use Rattle.hall_script.specs.Devices.{used}
 use Rattle.hall_turn.specs.Receipts.{Covered}
 use Rattle.hall_turn.specs.Known.{Doorway, Known}
 use Rattle.hall_turn.specs.Answers.{new_passes, IsSamePass}
@@ -19,7 +18,7 @@ use Rattle.live_session.specs.declared.ready.Room.{Room}
 use Rattle.live_session.specs.declared.run.Ended.{Ended}
 use Rattle.live_session.specs.declared.ending.Closing.{Closing}
 use Rattle.live_session.specs.Hearing.{DeskLog}
-use Rattle.live_session.specs.Sessions.{ServesIfBegun}
+use Rattle.live_session.specs.Sittings.{at, SitsIfBegun}
 
 module _ {S O : Type 0} where
   -- the devices of a session, and how it ended
@@ -76,9 +75,9 @@ module _ (stood : ChineseWall → List Entry → Option Covered → Type 0)
     (heard : S → DeskLog) (failures : O → ℕ) (contents : O → Option (List ℕ)) where
   -- what became of a job
   pub record HasServed (job : Job M S O) (played : Played M S O) : Type 0 where
-    pub so : ServesIfBegun stood job.most heard job.pass.door.policy
-        (used fails left job.peer.source played.peer.source)
-        (used failures contents job.peer.sink played.peer.sink) job.pass played.pass played.ended
+    pub so : SitsIfBegun stood job.most fails left heard failures contents job.pass.door.policy
+        (at job.peer.source job.peer.sink job.pass)
+        (at played.peer.source played.peer.sink played.pass) played.ended
     pub same : IsSamePass job.pass played.pass
 
   abbrev pub AllServed : List (Job M S O) → List (Played M S O) → Type 0

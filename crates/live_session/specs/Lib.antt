@@ -1,6 +1,9 @@
 pub mod Lines
 pub mod Hearing
+pub mod Requests
 pub mod Sessions
+pub mod Sittings
 pub mod Served
+pub mod Keeping
 pub mod Steps
 pub mod Joining

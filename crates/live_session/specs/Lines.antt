@@ -1,8 +1,9 @@
 -- What a finished line of a live session says, and the lines that answer where no call was made.
 -- (Own format.)
-use Rattle.std.specs.Prelude.{ℕ, nat_lt, List, ◌++◌, length, codes, Option, Some, None, Result, Ok}
+use Rattle.std.specs.Prelude.{ℕ, nat_lt, List, ◌∷◌, ◌++◌, length, codes, Option, Some, None, Result, Ok}
 use Rattle.std.specs.Prelude.{Err, if◌then◌else◌}
 use Rattle.std.specs.Fmt.{decimal}
+use Rattle.std.specs.List.{flat_map}
 use Rattle.hex.specs.Hex.{encode_lower}
 use Rattle.coll_text.specs.declared.fault.LineFault.{LineFault}
 use Rattle.coll_text.specs.declared.fault.LineFault.TheVariants as faults
@@ -47,6 +48,22 @@ abbrev pub head_line : Option Head → List ℕ
 head_line None = codes "head 0 -\n"
 head_line (Some head) = codes "head " ++ decimal head.entries ++ codes " "
     ++ encode_lower head.digest ++ codes "\n"
+
+-- the answer to `ping N`
+abbrev pub ping_line : (number : ℕ) → List ℕ
+ping_line number = codes "ping " ++ decimal number ++ codes "\n"
+
+-- numbers, each behind a space
+abbrev pub behind_spaces : List ℕ → List ℕ
+behind_spaces numbers = flat_map (λ n. 32 ∷ decimal n) numbers
+
+-- the answer to `open`
+abbrev pub open_line : (requests : List ℕ) → List ℕ
+open_line requests = codes "open" ++ behind_spaces requests ++ codes "\n"
+
+-- the answer to `next`
+abbrev pub next_line : (request : ℕ) → List ℕ
+next_line request = codes "next " ++ decimal request ++ codes "\n"
 
 -- the answer to `leave`
 abbrev pub left_line : List ℕ

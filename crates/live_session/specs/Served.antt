@@ -5,7 +5,6 @@ use Rattle.wall_policy.specs.Policy.{ChineseWall}
 use Rattle.run_model.specs.Comms.{processes}
 use Rattle.run_model.specs.Runs.{Entry, posts}
 use Rattle.run_model.specs.Replies.{Legal}
-use Rattle.hall_script.specs.Devices.{used}
 use Rattle.hall_turn.specs.Runs.{Continues, calls_of}
 use Rattle.hall_turn.specs.Receipts.{Covered}
 use Rattle.hall_turn.specs.Known.{Doorway, Known}
@@ -13,7 +12,8 @@ use Rattle.hall_turn.specs.Answers.{new_pass}
 use Rattle.live_session.specs.declared.peer.Peer.{Peer}
 use Rattle.live_session.specs.declared.peer.Session.{Session}
 use Rattle.live_session.specs.Hearing.{DeskLog}
-use Rattle.live_session.specs.Sessions.{IsWithin, Stood, Serves}
+use Rattle.live_session.specs.Sessions.{IsWithin, Stood}
+use Rattle.live_session.specs.Sittings.{at, Sits}
 
 module _ {S O : Type 0} (fails : S → ℕ) (left : S → Option (List ℕ))
     (heard : S → DeskLog) (failures : O → ℕ) (contents : O → Option (List ℕ)) where
@@ -26,8 +26,8 @@ module _ {S O : Type 0} (fails : S → ℕ) (left : S → Option (List ℕ))
     pub pass : Known
     pub begins : Continues run pass.seen
     pub own : calls_of p run ≡ calls_of p pass.seen
-    pub served : Serves stood most heard wall (used fails left old.source new.peer.source)
-        (used failures contents old.sink new.peer.sink) (new_pass door p) pass new.closing
+    pub served : Sits stood most fails left heard failures contents wall
+        (at old.source old.sink (new_pass door p)) (at new.peer.source new.peer.sink pass) new.closing
     pub posted : IsWithin most (length (posts (calls_of p run)))
 
   -- There is a legal run for which the machine stands. The calls of each process in it are those of

@@ -15,9 +15,9 @@ use Rattle.run_model.specs.Runs.{Entry, entry}
 use Rattle.run_model.specs.Replies.{Legal}
 use Rattle.hall_script.specs.declared.ask.Ask.{Ask}
 use Rattle.hall_script.specs.declared.ask.Ask.TheVariants.{Act as ToAct, Wait, Head as AskHead}
-use Rattle.hall_script.specs.declared.ask.Ask.TheVariants.{Leave}
+use Rattle.hall_script.specs.declared.ask.Ask.TheVariants.{Ping, Open, Next, Leave}
 use Rattle.hall_script.specs.Devices.{Used, bytes_before, bytes_after, NeverFailed, FailedOnce}
-use Rattle.hall_script.specs.Devices.{IsUntouched, IsWritten}
+use Rattle.hall_script.specs.Devices.{IsWritten}
 use Rattle.hall_script.specs.Replies.{reply_line}
 use Rattle.hall_turn.specs.Runs.{Continues, calls_of}
 use Rattle.hall_turn.specs.declared.head.Head.{Head}
@@ -31,27 +31,50 @@ use Rattle.live_session.specs.declared.ending.SessionEnd.TheVariants.{EndOfStrea
 use Rattle.live_session.specs.declared.ending.SessionEnd.TheVariants.{ReadFailed, WriteFailed}
 use Rattle.live_session.specs.declared.ending.SessionEnd.TheVariants.{Exhausted, Unbooked}
 use Rattle.live_session.specs.declared.ending.SessionEnd.TheVariants.{NoMemory}
-use Rattle.live_session.specs.Lines.{said, bad_line, head_line, left_line, exhausted_line}
-use Rattle.live_session.specs.Lines.{unbooked_line}
+use Rattle.live_session.specs.Lines.{said, bad_line, head_line, ping_line, open_line, next_line}
+use Rattle.live_session.specs.Lines.{left_line, exhausted_line, unbooked_line}
+use Rattle.live_session.specs.Requests.{given_by, open_by}
 use Rattle.live_session.specs.Hearing.{DeskLog, Heard, Shown, Tells, text_of}
 
 -- ---- lines and their answers
 
+-- What a line was told for which no call was made: the head of the book, the number that it gave,
+-- which requests of the process are open, which number its next one gets, or why it asks for nothing.
+pub data Uncalled : Type 0 where
+  its_head : (head : Option Head) → Uncalled
+  its_number : (number : ℕ) → Uncalled
+  its_open : (requests : List ℕ) → Uncalled
+  its_next : (request : ℕ) → Uncalled
+  its_fault : (bad : BadLine) → Uncalled
+
+-- what the line says that was told this
+abbrev pub asked_by : Uncalled → Result Ask BadLine
+asked_by (its_head head) = Ok AskHead
+asked_by (its_number number) = Ok (Ping number)
+asked_by (its_open requests) = Ok Open
+asked_by (its_next request) = Ok Next
+asked_by (its_fault bad) = Err bad
+
+-- the line that tells it
+abbrev pub uncalled_line : Uncalled → List ℕ
+uncalled_line (its_head head) = head_line head
+uncalled_line (its_number number) = ping_line number
+uncalled_line (its_open requests) = open_line requests
+uncalled_line (its_next request) = next_line request
+uncalled_line (its_fault bad) = bad_line bad
+
 -- What a line came to: its act was done, with this reply; or its request was taken again and again,
--- so often answered Pending, and then with this reply; or it asked for the head of the book, and this
--- was told; or it asks for nothing.
+-- so often answered Pending, and then with this reply; or no call was made, and this was told.
 pub data Told : Type 0 where
   done : (act : Act) → (reply : Reply) → Told
   waited : (request again : ℕ) → (reply : Reply) → Told
-  asked_head : (head : Option Head) → Told
-  asked_nothing : (bad : BadLine) → Told
+  uncalled : (it : Uncalled) → Told
 
 -- what the line says
 abbrev pub said_by : Told → Result Ask BadLine
 said_by (done act reply) = Ok (ToAct act)
 said_by (waited request again reply) = Ok (Wait request)
-said_by (asked_head head) = Ok AskHead
-said_by (asked_nothing bad) = Err bad
+said_by (uncalled it) = asked_by it
 
 -- the entry of a call
 abbrev pub called : (process : ℕ) → Act → Reply → Entry
@@ -62,20 +85,18 @@ abbrev pub calls_for : (process : ℕ) → Told → List Entry
 calls_for process (done act reply) = called process act reply ∷ []
 calls_for process (waited request again reply) = called process (Take request) reply
     ∷ replicate again (called process (Take request) Pending)
-calls_for process (asked_head head) = []
-calls_for process (asked_nothing bad) = []
+calls_for process (uncalled it) = []
 
 -- the calls that were made for all lines
 abbrev pub made : (process : ℕ) → List Told → List Entry
 made process [] = []
 made process (told ∷ past) = calls_for process told ++ made process past
 
--- the line that answers a line: that of the reply or the head, or that of its fault
+-- the line that answers a line: that of the reply, or of what was told
 abbrev pub answer : ChineseWall → Told → List ℕ
 answer wall (done act reply) = reply_line wall reply
 answer wall (waited request again reply) = reply_line wall reply
-answer wall (asked_head head) = head_line head
-answer wall (asked_nothing bad) = bad_line bad
+answer wall (uncalled it) = uncalled_line it
 
 -- the answers, the first one first
 abbrev pub answers : ChineseWall → List Told → List ℕ
@@ -88,8 +109,7 @@ answers wall (told ∷ past) = answers wall past ++ answer wall told
 abbrev pub counts_as : Told → ℕ
 counts_as (done act reply) = 1
 counts_as (waited request again reply) = 1
-counts_as (asked_head head) = 0
-counts_as (asked_nothing bad) = 0
+counts_as (uncalled it) = 0
 
 -- how many calls these lines made
 abbrev pub calls_in : List Told → ℕ
@@ -156,17 +176,19 @@ Stood {M = M} stands booked_by wall run booked =
 abbrev pub last_call : (process : ℕ) → Told → Option Entry
 last_call process (done act reply) = Some (called process act reply)
 last_call process (waited request again reply) = Some (called process (Take request) reply)
-last_call process (asked_head head) = None
-last_call process (asked_nothing bad) = None
+last_call process (uncalled it) = None
 
 -- a line that asks for a call
 abbrev pub AsksForCall : Ask → Type 0
 AsksForCall (ToAct act) = Unit {0}
 AsksForCall (Wait request) = Unit {0}
 AsksForCall AskHead = ⊥
+AsksForCall (Ping number) = ⊥
+AsksForCall Open = ⊥
+AsksForCall Next = ⊥
 AsksForCall Leave = ⊥
 
--- ---- heads
+-- ---- what is told without a call
 
 -- what the receipt covers that was shown last: the newest of these, or, where there is none, the last
 -- one before
@@ -180,12 +202,27 @@ abbrev pub IsHeadBy : (last : Option Covered) → Option Head → Type 0
 IsHeadBy None head = head ≡ None
 IsHeadBy (Some covers) head = IsHeadAt covers.extent head
 
--- so it is with the head that the line was told, if it asks for one
-abbrev pub TellsHead : (last : Option Covered) → Told → Type 0
-TellsHead last (done act reply) = Unit {0}
-TellsHead last (waited request again reply) = Unit {0}
-TellsHead last (asked_head head) = IsHeadBy last head
-TellsHead last (asked_nothing bad) = Unit {0}
+-- What was told is so: of the book's head by the receipt that was shown last, and of the requests of
+-- the process by its calls so far.
+abbrev pub IsSo : (last : Option Covered) → (process : ℕ) → (calls : List Entry) → Uncalled →
+    Type 0
+IsSo last process calls (its_head head) = IsHeadBy last head
+IsSo last process calls (its_number number) = Unit {0}
+IsSo last process calls (its_open requests) = requests ≡ open_by process calls
+IsSo last process calls (its_next request) = request ≡ given_by calls
+IsSo last process calls (its_fault bad) = Unit {0}
+
+-- so it is with what the line was told, if no call was made for it
+abbrev pub TellsWhatIs : (last : Option Covered) → (process : ℕ) → (calls : List Entry) → Told →
+    Type 0
+TellsWhatIs last process calls (done act reply) = Unit {0}
+TellsWhatIs last process calls (waited request again reply) = Unit {0}
+TellsWhatIs last process calls (uncalled it) = IsSo last process calls it
+
+-- the calls of the process by now: those for these lines, and before them those that the pass had
+-- seen
+abbrev pub calls_by : (before : Known) → List Told → List Entry
+calls_by before told = made before.process told ++ calls_of before.process before.seen
 
 module _ (stood : ChineseWall → List Entry → Option Covered → Type 0) where
   -- At the end of this call's turn the machine stood for the run that ends with the call, and its
@@ -217,8 +254,9 @@ module _ (stood : ChineseWall → List Entry → Option Covered → Type 0) wher
       × Appends written show.written (answers wall past)
 
   -- No reply is told before the book has its entries: of each of these lines the desk was shown the
-  -- receipt first, by which it has. A head that was told is that of the receipt shown last; what is
-  -- known of the last one before these lines is given.
+  -- receipt first, by which it has. What was told without a call is so: a head is that of the receipt
+  -- shown last (what is known of the last one before these lines is given), and requests are those
+  -- of the process's calls by then.
   abbrev pub AreBooked : ChineseWall → (written : Option (List ℕ)) → (before : Known) →
       (last : Option Covered) → List Told → List Shown → (after : Known) → Type 0
   AreBooked wall written before last [] shows after = shows ≡ []
@@ -227,7 +265,7 @@ module _ (stood : ChineseWall → List Entry → Option Covered → Type 0) wher
       × AreBooked wall written before last past earlier after
       × IsShown wall written before (last_call before.process told)
       (made before.process (told ∷ past)) past newest after
-      × TellsHead (shown_last last earlier) told
+      × TellsWhatIs (shown_last last earlier) before.process (calls_by before past) told
 
   -- The newest line was acted on, and is not told what it came to: behind its last call the machine
   -- was not booked.
@@ -320,14 +358,16 @@ pub record IsPrompt {S O : Type 0} (heard : S → DeskLog) (wall : ChineseWall)
 
 -- ---- a session
 
-module _ (stood : ChineseWall → List Entry → Option Covered → Type 0) (most : Option ℕ) where
-  -- What a session came to: the bytes that it was handed, cut at each LF, are the lines that it
-  -- acted on and a rest; what was written are the answers to these lines, in order, each before the
-  -- next read, and no reply before the desk was shown by a receipt that the book has its entries; what
-  -- was told of the book's head is what that of the last call says.
+module _ (stood : ChineseWall → List Entry → Option Covered → Type 0) (most : Option ℕ)
+    (base : ℕ) where
+  -- What a session came to from the first line of a stream on, before which its process had made so
+  -- many calls: the bytes that it was handed, cut at each LF, are the lines that it acted on and a
+  -- rest; what was written are the answers to these lines, in order, each before the next read, and
+  -- no reply before the desk was shown by a receipt that the book has its entries; what was told of
+  -- the book's head is what that of the last call says, and of requests what the calls say.
   -- Of the lines that were acted on the newest may not be told. The calls that it made were
-  -- counted, and are no more than it may make: where it has made so many, the next line that asks
-  -- for a call is not acted on.
+  -- counted, and are no more than the process may make: where it has made so many, the next line that
+  -- asks for a call is not acted on.
   pub record Serves {S O : Type 0} (heard : S → DeskLog) (wall : ChineseWall)
       (source : Used S) (sink : Used O) (before after : Known) (closing : Closing) : Type 0 where
     pub bytes : List ℕ
@@ -341,15 +381,7 @@ module _ (stood : ChineseWall → List Entry → Option Covered → Type 0) (mos
     pub shown : Tells (heard source.old).shows (heard source.new).shows shows
     pub booked : AreBooked stood wall (bytes_before sink) before None told shows after
     pub prompt : IsPrompt heard wall source sink bytes told
-    pub counted : closing.calls ≡ calls_in (and_untold untold told)
+    pub counted : closing.calls ≡ calls_in (and_untold untold told) + base
     pub within : IsWithin most closing.calls
     pub ends : EndsSo stood (IsSpent most closing.calls) wall source sink before rest told untold after
         closing.end
-
-  -- The session ended so, or it did not begin, and nothing was done.
-  abbrev pub ServesIfBegun : {S O : Type 0} → (heard : S → DeskLog) → ChineseWall →
-      Used S → Used O → (before after : Known) → Option Closing → Type 0
-  ServesIfBegun heard wall source sink before after (Some closing) =
-      Serves heard wall source sink before after closing
-  ServesIfBegun heard wall source sink before after None =
-      IsUntouched source × IsUntouched sink × (after ≡ before)

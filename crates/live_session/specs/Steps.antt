@@ -8,13 +8,12 @@ use Rattle.coll_text.specs.Numbers.{Word}
 use Rattle.run_model.specs.declared.reply.Reply.{Reply}
 use Rattle.run_model.specs.Known.{IsKnownReply}
 use Rattle.hall_script.specs.declared.ask.Ask.{Ask}
-use Rattle.hall_script.specs.declared.ask.Ask.TheVariants.{Wait, Head as AskHead, Leave}
+use Rattle.hall_script.specs.declared.ask.Ask.TheVariants.{Wait, Leave}
 use Rattle.hall_script.specs.Devices.{Used, bytes_before, IsUntouched, FailedOnce, IsWritten}
 use Rattle.hall_script.specs.Devices.{BrokeOff}
 use Rattle.hall_script.specs.Replies.{reply_line}
 use Rattle.hall_turn.specs.declared.answer.Answer.{Answer}
 use Rattle.hall_turn.specs.declared.answer.Answer.TheVariants.{Reply as Replied, Exhausted as Late}
-use Rattle.hall_turn.specs.declared.head.Head.{Head}
 use Rattle.hall_turn.specs.Receipts.{Covered}
 use Rattle.hall_turn.specs.Runs.{calls_of}
 use Rattle.hall_turn.specs.Known.{Known}
@@ -29,10 +28,11 @@ use Rattle.live_session.specs.declared.acting.Came.{Came}
 use Rattle.live_session.specs.declared.acting.Came.TheVariants as cames
 use Rattle.live_session.specs.declared.answer.Next.{Next}
 use Rattle.live_session.specs.declared.answer.Next.TheVariants as nexts
-use Rattle.live_session.specs.Lines.{line_limit, head_line, left_line, exhausted_line}
-use Rattle.live_session.specs.Lines.{unbooked_line}
-use Rattle.live_session.specs.Sessions.{Told, done, waited, asked_head, asked_nothing, said_by}
-use Rattle.live_session.specs.Sessions.{calls_for, AsksForCall, IsHeadBy, shown_last}
+use Rattle.live_session.specs.Lines.{line_limit, left_line, exhausted_line, unbooked_line}
+use Rattle.live_session.specs.Sessions.{Uncalled, its_head, its_number, its_open, its_next, asked_by}
+use Rattle.live_session.specs.Sessions.{uncalled_line, IsSo}
+use Rattle.live_session.specs.Sessions.{Told, done, waited, uncalled, said_by}
+use Rattle.live_session.specs.Sessions.{calls_for, AsksForCall, shown_last}
 use Rattle.live_session.specs.Sessions.{answer, answers, SeesMore, Acted, and_untold, last_call}
 use Rattle.live_session.specs.Hearing.{DeskLog, Shown, Tells}
 use Rattle.live_session.specs.Sessions.{StoodFor, AreBooked, SaysLast, BreaksOff}
@@ -147,8 +147,7 @@ pub record ComesTooLate (most : Option ℕ) (before : Known) (line : Result Ask 
 abbrev pub reply_to : Told → Option Reply
 reply_to (done act reply) = Some reply
 reply_to (waited request again reply) = Some reply
-reply_to (asked_head head) = None
-reply_to (asked_nothing bad) = None
+reply_to (uncalled it) = None
 
 -- what a line came to whose last call was answered so, with the machine booked or not
 abbrev pub came_of : Answer → (booked : Option Covered) → Came
@@ -159,6 +158,9 @@ came_of Late booked = cames.Exhausted
 abbrev pub CameNamesKnown : ChineseWall → Came → Type 0
 CameNamesKnown wall (cames.Reply reply) = IsKnownReply wall reply
 CameNamesKnown wall (cames.Head head) = Unit {0}
+CameNamesKnown wall (cames.Pong number) = Unit {0}
+CameNamesKnown wall (cames.Open requests) = Unit {0}
+CameNamesKnown wall (cames.Next request) = Unit {0}
 CameNamesKnown wall cames.Left = Unit {0}
 CameNamesKnown wall cames.Exhausted = Unit {0}
 CameNamesKnown wall cames.Unbooked = Unit {0}
@@ -166,7 +168,10 @@ CameNamesKnown wall cames.Unbooked = Unit {0}
 -- the line that answers what came of it
 abbrev pub line_to : ChineseWall → Came → List ℕ
 line_to wall (cames.Reply reply) = reply_line wall reply
-line_to wall (cames.Head head) = head_line head
+line_to wall (cames.Head head) = uncalled_line (its_head head)
+line_to wall (cames.Pong number) = uncalled_line (its_number number)
+line_to wall (cames.Open requests) = uncalled_line (its_open requests.items)
+line_to wall (cames.Next request) = uncalled_line (its_next request)
 line_to wall cames.Left = left_line
 line_to wall cames.Exhausted = exhausted_line
 line_to wall cames.Unbooked = unbooked_line
@@ -175,6 +180,9 @@ line_to wall cames.Unbooked = unbooked_line
 abbrev pub next_after : Came → Next
 next_after (cames.Reply reply) = nexts.Replied
 next_after (cames.Head head) = nexts.GoesOn
+next_after (cames.Pong number) = nexts.GoesOn
+next_after (cames.Open requests) = nexts.GoesOn
+next_after (cames.Next request) = nexts.GoesOn
 next_after cames.Left = nexts.Left
 next_after cames.Exhausted = nexts.Exhausted
 next_after cames.Unbooked = nexts.Unbooked
@@ -216,6 +224,15 @@ module _ (stood : ChineseWall → List Entry → Option Covered → Type 0) wher
       × ComesTo before (Ok (Wait request)) (waited request again reply) receipt after
   Waited before request Late receipt after = SeesMore before [] after × (2 ^ 62 ≤ length after.seen)
 
+-- no call was made for the line, and this is told, which is so
+pub record ComesUncalled (before : Known) (line : Result Ask BadLine) (it : Uncalled)
+    (last receipt : Option Covered) (count : Counting) (after : Known) : Type 0 where
+  pub says : line ≡ asked_by it
+  pub so : IsSo last before.process (calls_of before.process before.seen) it
+  pub sees : SeesMore before [] after
+  pub uncounted : IsUncounted count
+  pub kept : receipt ≡ last
+
 module _ (stood : ChineseWall → List Entry → Option Covered → Type 0) (most : Option ℕ) where
   -- what a line came to that asks for something; `last` is what the last receipt covered before
   abbrev pub CameTo : (before : Known) → Ask → Came → (last receipt : Option Covered) →
@@ -223,8 +240,13 @@ module _ (stood : ChineseWall → List Entry → Option Covered → Type 0) (mos
   CameTo before ask (cames.Reply reply) last receipt count after = (told : Told)
       × ComesBooked stood before (Ok ask) told receipt count after × (reply_to told ≡ Some reply)
   CameTo before ask (cames.Head head) last receipt count after =
-      (ask ≡ AskHead) × SeesMore before [] after × IsUncounted count × IsHeadBy last head
-      × (receipt ≡ last)
+      ComesUncalled before (Ok ask) (its_head head) last receipt count after
+  CameTo before ask (cames.Pong number) last receipt count after =
+      ComesUncalled before (Ok ask) (its_number number) last receipt count after
+  CameTo before ask (cames.Open requests) last receipt count after =
+      ComesUncalled before (Ok ask) (its_open requests.items) last receipt count after
+  CameTo before ask (cames.Next request) last receipt count after =
+      ComesUncalled before (Ok ask) (its_next request) last receipt count after
   CameTo before ask cames.Left last receipt count after =
       (ask ≡ Leave) × SeesMore before [] after × IsUncounted count
   CameTo before ask cames.Exhausted last receipt count after =
@@ -232,22 +254,13 @@ module _ (stood : ChineseWall → List Entry → Option Covered → Type 0) (mos
   CameTo before ask cames.Unbooked last receipt count after =
       ComesUnbooked stood before (Ok ask) count after
 
-  -- the line asks for no call, and this text answers it: it asks for the head, or for nothing
-  abbrev pub AnswersUncalled : ChineseWall → Result Ask BadLine → (text : List ℕ) →
-      (last : Option Covered) → Type 0
-  AnswersUncalled wall line text last =
-      ((bad : BadLine) × (line ≡ Err bad) × (text ≡ answer wall (asked_nothing bad)))
-      ⊎ ((head : Option Head) × (line ≡ Ok AskHead) × (text ≡ answer wall (asked_head head))
-      × IsHeadBy last head)
-
   -- the text answers the line, and the session goes on so
   abbrev pub AnswersSo : ChineseWall → (before : Known) → Result Ask BadLine → (text : List ℕ) →
       (last receipt : Option Covered) → Counting → (after : Known) → Next → Type 0
   AnswersSo wall before line text last receipt count after nexts.Replied = (told : Told)
       × ComesBooked stood before line told receipt count after × (text ≡ answer wall told)
-  AnswersSo wall before line text last receipt count after nexts.GoesOn =
-      AnswersUncalled wall line text last × SeesMore before [] after × IsUncounted count
-      × (receipt ≡ last)
+  AnswersSo wall before line text last receipt count after nexts.GoesOn = (it : Uncalled)
+      × ComesUncalled before line it last receipt count after × (text ≡ uncalled_line it)
   AnswersSo wall before line text last receipt count after nexts.Left =
       (line ≡ Ok Leave) × SeesMore before [] after × IsUncounted count × (text ≡ left_line)
   AnswersSo wall before line text last receipt count after nexts.Exhausted =

@@ -1,5 +1,5 @@
 //! Does what a line asks for.
-ghost use Rattle.std.specs.Prelude.{◌≡◌, ◌<◌, Ok, Option, is_some, option_map};
+ghost use Rattle.std.specs.Prelude.{◌≡◌, ◌<◌, Ok, Option, IfErr, IfOk, [], is_some, option_map};
 ghost use Rattle.run_model.specs.declared.call.Act.TheVariants.{Take};
 ghost use Rattle.run_model.specs.Known.{HasKnownLabel};
 ghost use Rattle.run_model.specs.Replies.{Legal};
@@ -8,9 +8,10 @@ ghost use Rattle.hall_script.specs.Asks.{AsksWithKnownLabel};
 ghost use Rattle.hall_turn.specs.Receipts.{Covered};
 ghost use Rattle.hall_turn.specs.Answers.{Answered, IsSamePass, NamesKnown, ClaimAnswered};
 ghost use Rattle.hall_turn.specs.Answers.{ClaimNamesKnown, MayFinish, GivesAt, ClaimGivesAt};
-ghost use Rattle.live_session.specs.Sessions.{IsHeadBy, Stood};
+ghost use Rattle.live_session.specs.Sessions.{IsHeadBy, SeesMore, Stood};
+ghost use Rattle.live_session.specs.Keeping.{Keeps};
 ghost use Rattle.live_session.specs.Steps.{Waited, CameTo, CameNamesKnown, came_of};
-ghost use Rattle.live_session.specs.Steps.{Counts, calls_after, counting};
+ghost use Rattle.live_session.specs.Steps.{Counts, IsUncounted, calls_after, counting};
 
 use crate::caller::{Caller, may_call};
 use crate::seat::Seat;
@@ -22,6 +23,7 @@ use hall_turn::{
 };
 use run_model::Act;
 use std::sync::Wait;
+use wall_labels::NoMemory;
 
 /// What a line came to that asks for something.
 #[derive(Drop)]
@@ -30,6 +32,12 @@ pub(crate) enum Came {
     Reply(Reply),
     /// It asked for the head of the book: that of the last receipt, if there is a book.
     Head(Option<Head>),
+    /// It asked for this number again.
+    Pong(u64),
+    /// It asked which requests of the process are not taken: these.
+    Open(Vec<u64>),
+    /// It asked which number the process's next request gets: this one.
+    Next(u64),
     /// It said `leave`.
     Left,
     /// Its call was not made: the session has made as many as it may, or the door was too late.
@@ -47,6 +55,7 @@ fn came_of<R: Wait, T>(rt: &R, caller: &mut Caller<T>, answer: Answer, is_booked
         result ≡ came_of answer booked }
     ensures calls { caller.new.calls ≡ calls_after answer caller.old.calls }
     ensures receipt { caller.new.receipt ≡ caller.old.receipt }
+    ensures keeps { caller.new.seat.requests ≡ caller.old.seat.requests }
 {
     match answer {
         Answer::Reply(reply) => {
@@ -99,12 +108,14 @@ impl<'s, R: Wait, M: Receipts<T>, T: Receipt + Drop> Setting<'s, R, M, T> {
         receipt: &mut Option<T>,
     ) -> Answer
         requires door { pass.old.door ≡ self.now.door.now }
+        requires keeps { Keeps seat.old.requests pass.old }
         ensures same { IsSamePass pass.old pass.new }
         ensures legal { Legal self.now.door.now.policy pass.new.seen }
         ensures answered { Answered pass.old (Take request) result pass.new }
         ensures gives { GivesAt M.stands M.booked pass.old result pass.new
             (option_map T.covers receipt.old) (option_map T.covers receipt.new) }
         ensures named { NamesKnown self.now.door.now.policy result }
+        ensures keeps { Keeps seat.new.requests pass.new }
     {
         match self.claim(pass, request, receipt) {
             Claimed::Claim(claim) => {
@@ -127,11 +138,13 @@ impl<'s, R: Wait, M: Receipts<T>, T: Receipt + Drop> Setting<'s, R, M, T> {
         receipt: &mut Option<T>,
     ) -> Answer
         requires door { pass.old.door ≡ self.now.door.now }
+        requires keeps { Keeps seat.old.requests pass.old }
         ensures same { IsSamePass pass.old pass.new }
         ensures legal { Legal self.now.door.now.policy pass.new.seen }
         ensures waited { Waited (Stood M.stands M.booked) pass.old request result
             (option_map T.covers receipt.new) pass.new }
         ensures named { NamesKnown self.now.door.now.policy result }
+        ensures keeps { Keeps seat.new.requests pass.new }
     {
         match self.take(pass, seat, request, receipt) {
             Answer::Reply(Reply::Pending) => {}
@@ -162,12 +175,14 @@ impl<'s, R: Wait, M: Receipts<T>, T: Receipt + Drop> Setting<'s, R, M, T> {
     ) -> Answer
         requires door { pass.old.door ≡ self.now.door.now }
         requires label { HasKnownLabel self.now.door.now.policy act }
+        requires keeps { Keeps seat.old.requests pass.old }
         ensures same { IsSamePass pass.old pass.new }
         ensures legal { Legal self.now.door.now.policy pass.new.seen }
         ensures answered { Answered pass.old act result pass.new }
         ensures gives { GivesAt M.stands M.booked pass.old result pass.new
             (option_map T.covers receipt.old) (option_map T.covers receipt.new) }
         ensures named { NamesKnown self.now.door.now.policy result }
+        ensures keeps { Keeps seat.new.requests pass.new }
     {
         match act {
             Act::Post(posting) => {
@@ -201,6 +216,7 @@ impl<'s, R: Wait, M: Receipts<T>, T: Receipt + Drop> Setting<'s, R, M, T> {
         requires legal { Legal self.now.door.now.policy pass.old.seen }
         requires label { HasKnownLabel self.now.door.now.policy act }
         requires counts { Counts self.now.most caller.old.calls pass.old }
+        requires keeps { Keeps caller.old.seat.requests pass.old }
         ensures same { IsSamePass pass.old pass.new }
         ensures legal { Legal self.now.door.now.policy pass.new.seen }
         ensures came { CameTo (Stood M.stands M.booked) self.now.most pass.old (ToAct act) result
@@ -208,6 +224,7 @@ impl<'s, R: Wait, M: Receipts<T>, T: Receipt + Drop> Setting<'s, R, M, T> {
             (counting caller.old.calls caller.new.calls) pass.new }
         ensures counts { Counts self.now.most caller.new.calls pass.new }
         ensures named { CameNamesKnown self.now.door.now.policy result }
+        ensures keeps { Keeps caller.new.seat.requests pass.new }
     {
         if !may_call(caller.calls, self.most) {
             return Came::Exhausted;
@@ -222,6 +239,7 @@ impl<'s, R: Wait, M: Receipts<T>, T: Receipt + Drop> Setting<'s, R, M, T> {
         requires door { pass.old.door ≡ self.now.door.now }
         requires legal { Legal self.now.door.now.policy pass.old.seen }
         requires counts { Counts self.now.most caller.old.calls pass.old }
+        requires keeps { Keeps caller.old.seat.requests pass.old }
         ensures same { IsSamePass pass.old pass.new }
         ensures legal { Legal self.now.door.now.policy pass.new.seen }
         ensures came { CameTo (Stood M.stands M.booked) self.now.most pass.old (ToWait request)
@@ -229,6 +247,7 @@ impl<'s, R: Wait, M: Receipts<T>, T: Receipt + Drop> Setting<'s, R, M, T> {
             (counting caller.old.calls caller.new.calls) pass.new }
         ensures counts { Counts self.now.most caller.new.calls pass.new }
         ensures named { CameNamesKnown self.now.door.now.policy result }
+        ensures keeps { Keeps caller.new.seat.requests pass.new }
     {
         if !may_call(caller.calls, self.most) {
             return Came::Exhausted;
@@ -241,25 +260,42 @@ impl<'s, R: Wait, M: Receipts<T>, T: Receipt + Drop> Setting<'s, R, M, T> {
     /// Does what a line asks for. A call is made only if the session may make one more. Where one
     /// was made there is the receipt that the machine gave at the end of the turn of the last one,
     /// if it was booked; else there is the receipt that there was. The head of the book is what that
-    /// one says: so it takes no turn.
-    pub(crate) fn act_on(&self, pass: &mut PassTo<M>, caller: &mut Caller<T>, ask: Ask) -> Came
+    /// one says, and the session keeps its requests: so neither takes a turn. Memory runs out where
+    /// the open ones are listed, and then nothing was done.
+    pub(crate) fn act_on(
+        &self,
+        pass: &mut PassTo<M>,
+        caller: &mut Caller<T>,
+        ask: Ask,
+    ) -> Result<Came, NoMemory>
         requires door { pass.old.door ≡ self.now.door.now }
         requires legal { Legal self.now.door.now.policy pass.old.seen }
         requires label { AsksWithKnownLabel self.now.door.now.policy ask }
         requires counts { Counts self.now.most caller.old.calls pass.old }
+        requires keeps { Keeps caller.old.seat.requests pass.old }
         ensures same { IsSamePass pass.old pass.new }
         ensures legal { Legal self.now.door.now.policy pass.new.seen }
-        ensures came { CameTo (Stood M.stands M.booked) self.now.most pass.old ask result
+        ensures came { IfOk result (λ came.
+            CameTo (Stood M.stands M.booked) self.now.most pass.old ask came
             (option_map T.covers caller.old.receipt) (option_map T.covers caller.new.receipt)
-            (counting caller.old.calls caller.new.calls) pass.new }
+            (counting caller.old.calls caller.new.calls) pass.new) }
+        ensures nothing { IfErr result (λ _. SeesMore pass.old [] pass.new
+            × IsUncounted (counting caller.old.calls caller.new.calls)) }
         ensures counts { Counts self.now.most caller.new.calls pass.new }
-        ensures named { CameNamesKnown self.now.door.now.policy result }
+        ensures keeps { Keeps caller.new.seat.requests pass.new }
+        ensures named { IfOk result (CameNamesKnown self.now.door.now.policy) }
     {
         match ask {
-            Ask::Act(act) => self.act(pass, caller, act),
-            Ask::Wait(request) => self.wait_for(pass, caller, request),
-            Ask::Head => Came::Head(head_by(&caller.receipt)),
-            Ask::Leave => Came::Left,
+            Ask::Act(act) => Ok(self.act(pass, caller, act)),
+            Ask::Wait(request) => Ok(self.wait_for(pass, caller, request)),
+            Ask::Head => Ok(Came::Head(head_by(&caller.receipt))),
+            Ask::Ping(number) => Ok(Came::Pong(number)),
+            Ask::Open => match caller.seat.requests().open(self.alloc) {
+                Ok(requests) => Ok(Came::Open(requests)),
+                Err(refused) => Err(NoMemory::from(refused)),
+            },
+            Ask::Next => Ok(Came::Next(caller.seat.requests().given())),
+            Ask::Leave => Ok(Came::Left),
         }
     }
 }

@@ -6,6 +6,7 @@ ghost use Rattle.hall_script.specs.Devices.{used};
 ghost use Rattle.live_session.specs.Hearing.{Tells};
 ghost use Rattle.live_session.specs.Lines.{said};
 ghost use Rattle.live_session.specs.Sessions.{Stood};
+ghost use Rattle.live_session.specs.Keeping.{Keeps};
 ghost use Rattle.live_session.specs.Steps.{Holds, CameNamesKnown, line_to, next_after, PutsAnswer};
 ghost use Rattle.live_session.specs.Steps.{AnswersLine, IsUnread, showing, shown_next};
 ghost use Rattle.live_session.specs.Steps.{Counts, counting};
@@ -16,6 +17,7 @@ use crate::desk::ShowDesk;
 use crate::ending::SessionEnd;
 use crate::head::put_head;
 use crate::line::{Lines, bad_line, give_back};
+use crate::own::{put_next, put_open, put_ping};
 use crate::setting::Setting;
 use coll_text::{put, send};
 use hall_script::write_reply;
@@ -52,6 +54,18 @@ fn put_came(policy: &Policy, came: &Came, text: &mut Vec<u8>) -> Result<Next, No
             Err(refused) => Err(refused),
         },
         Came::Head(head) => match put_head(text, head) {
+            Ok(()) => Ok(Next::GoesOn),
+            Err(refused) => Err(NoMemory::from(refused)),
+        },
+        Came::Pong(number) => match put_ping(text, *number) {
+            Ok(()) => Ok(Next::GoesOn),
+            Err(refused) => Err(NoMemory::from(refused)),
+        },
+        Came::Open(requests) => match put_open(text, requests) {
+            Ok(()) => Ok(Next::GoesOn),
+            Err(refused) => Err(NoMemory::from(refused)),
+        },
+        Came::Next(request) => match put_next(text, *request) {
             Ok(()) => Ok(Next::GoesOn),
             Err(refused) => Err(NoMemory::from(refused)),
         },
@@ -105,6 +119,7 @@ impl<'s, R: Wait, M: Receipts<T>, T: Receipt + Drop> Setting<'s, R, M, T> {
         requires legal { Legal self.now.policy.now pass.old.seen }
         requires none { lines.old.text.items ≡ [] }
         requires counts { Counts self.now.most caller.old.calls pass.old }
+        requires keeps { Keeps caller.old.seat.requests pass.old }
         ensures same { IsSamePass pass.old pass.new }
         ensures legal { Legal self.now.policy.now pass.new.seen }
         ensures puts { (bytes : List ℕ) → Holds lines.old.line bytes →
@@ -113,12 +128,13 @@ impl<'s, R: Wait, M: Receipts<T>, T: Receipt + Drop> Setting<'s, R, M, T> {
             (option_map T.covers caller.old.receipt) (option_map T.covers caller.new.receipt)
             (counting caller.old.calls caller.new.calls) pass.new result }
         ensures counts { Counts self.now.most caller.new.calls pass.new }
+        ensures keeps { Keeps caller.new.seat.requests pass.new }
     {
         match lines.line.read(self.alloc, self.policy) {
-            Ok(Ok(ask)) => {
-                let came = self.act_on(pass, caller, ask);
-                put_came(self.policy, &came, &mut lines.text)
-            }
+            Ok(Ok(ask)) => match self.act_on(pass, caller, ask) {
+                Ok(came) => put_came(self.policy, &came, &mut lines.text),
+                Err(refused) => Err(refused),
+            },
             Ok(Err(bad)) => match put(&mut lines.text, bad_line(bad)) {
                 Ok(()) => Ok(Next::GoesOn),
                 Err(refused) => Err(NoMemory::from(refused)),
@@ -141,6 +157,7 @@ impl<'s, R: Wait, M: Receipts<T>, T: Receipt + Drop> Setting<'s, R, M, T> {
         requires legal { Legal self.now.policy.now pass.old.seen }
         requires none { lines.old.text.items ≡ [] }
         requires counts { Counts self.now.most caller.old.calls pass.old }
+        requires keeps { Keeps caller.old.seat.requests pass.old }
         ensures none { OnOk result (lines.new.text.items ≡ []) }
         ensures same { IsSamePass pass.old pass.new }
         ensures legal { Legal self.now.policy.now pass.new.seen }
@@ -153,6 +170,7 @@ impl<'s, R: Wait, M: Receipts<T>, T: Receipt + Drop> Setting<'s, R, M, T> {
             (used O.failures O.contents sink.old sink.new)
             (counting caller.old.calls caller.new.calls) pass.new result }
         ensures counts { Counts self.now.most caller.new.calls pass.new }
+        ensures keeps { Keeps caller.new.seat.requests pass.new }
     {
         let next = match self.put_answer(pass, caller, lines) {
             Ok(next) => next,

@@ -35,6 +35,13 @@ pub trait Desk<O: Sink> {
             (read_into result buffer.new (O.contents sink.now)) }
         ensures shows { (heard self.new).shows ≡ (heard self.old).shows };
 
+    /// The stream that was read has ended, or an answer could not be written, after so many calls:
+    /// waits until the process is served again, and says so, or that it won't be. Nothing is read or
+    /// written meanwhile. What is to be read behind it is the beginning of another stream.
+    fn rest(&mut self, sink: &O, end: SessionEnd, calls: u64) -> bool
+        ensures failures { failures self.new ≡ failures self.old }
+        ensures heard { heard self.new ≡ heard self.old };
+
     /// The session has ended so, after so many calls: nothing is read or written behind it. Each
     /// call that was made counts, and each wait as one, however often it took the request.
     fn close(&self, end: SessionEnd, calls: u64);

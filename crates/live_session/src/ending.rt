@@ -23,6 +23,26 @@ pub enum SessionEnd {
     NoMemory,
 }
 
+impl SessionEnd {
+    ghost use Rattle.std.specs.Prelude.{IsTrue, IsFalse};
+    ghost use Rattle.live_session.specs.Sittings.{MayRest};
+
+    /// Whether the process may be served again behind it, by another stream.
+    pub(crate) fn may_rest(self) -> bool
+        ensures yes { IsTrue result → MayRest self }
+        ensures no { IsFalse result → ¬ (MayRest self) }
+    {
+        match self {
+            SessionEnd::EndOfStream | SessionEnd::WriteFailed => true,
+            SessionEnd::Left
+            | SessionEnd::ReadFailed
+            | SessionEnd::Exhausted
+            | SessionEnd::Unbooked
+            | SessionEnd::NoMemory => false,
+        }
+    }
+}
+
 impl From<NoMemory> for SessionEnd {
     ghost use Rattle.std.specs.Prelude.{◌≡◌};
     ghost use Rattle.live_session.specs.declared.ending.SessionEnd.TheVariants.{NoMemory};

@@ -9,6 +9,7 @@ mod desk;
 mod ending;
 mod head;
 mod line;
+mod own;
 mod peer;
 mod ready;
 mod requests;

@@ -1,5 +1,5 @@
 //! The session of a process that is alone.
-ghost use Rattle.std.specs.Prelude.{◌≡◌};
+ghost use Rattle.std.specs.Prelude.{◌≡◌, []};
 ghost use Rattle.std.specs.List.{All};
 
 use crate::devices::{Due, Heard, new_answers, new_client, nothing_heard};
@@ -32,10 +32,11 @@ fn ended(end: SessionEnd, calls: u64) -> Due {
     Due { end, calls }
 }
 
-/// A door under the policy, and the pass of its only process.
+/// A door under the policy, and the pass of its only process, which has made no call.
 pub(crate) fn door_alone<R: Abort>(rt: &R, alloc: Global, policy: &Policy) -> (Door, Pass)
     ensures policy { result.0.policy ≡ policy.now }
     ensures pass { result.1.door ≡ result.0 }
+    ensures fresh { result.1.seen ≡ [] }
 {
     let copy = policy.copy(alloc).expect(rt, "no memory");
     let (door, mut passes) = Door::open(alloc, copy).expect(rt, "no door");
@@ -46,8 +47,10 @@ pub(crate) fn door_alone<R: Abort>(rt: &R, alloc: Global, policy: &Policy) -> (D
 
 // The last of the passes.
 fn last<R: Abort>(rt: &R, door: &Door, passes: &mut Passes) -> Pass
-    requires { All (λ pass. pass.door ≡ door.now) passes.old.items }
-    ensures { result.door ≡ door.now }
+    requires doors { All (λ pass. pass.door ≡ door.now) passes.old.items }
+    requires fresh { All (λ pass. pass.seen ≡ []) passes.old.items }
+    ensures door { result.door ≡ door.now }
+    ensures fresh { result.seen ≡ [] }
 {
     passes.pop().expect(rt, "no pass is left")
 }
@@ -65,8 +68,8 @@ pub(crate) fn end_alone<R: Abort + Wait, S: ShowDesk<O, ()>, O: Sink>(
     end_within(rt, alloc, policy, begins, None, source, sink)
 }
 
-// The same of a session that may make so many calls.
-fn end_within<R: Abort + Wait, S: ShowDesk<O, ()>, O: Sink>(
+/// The same of a session that may make so many calls.
+pub(crate) fn end_within<R: Abort + Wait, S: ShowDesk<O, ()>, O: Sink>(
     rt: &R,
     alloc: Global,
     policy: &Policy,

@@ -159,6 +159,11 @@ impl<'a> Desk<Answers<'a>> for Client<'a> {
         self.lines.read(&mut buffer[..count])
     }
 
+    // Nobody comes back.
+    fn rest(&mut self, _sink: &Answers<'a>, _end: SessionEnd, _calls: u64) -> bool {
+        false
+    }
+
     fn close(&self, end: SessionEnd, calls: u64) {
         let heard = self.heard;
         heard.expect(raise(&heard.closed) == 0 && is_at(&heard.opened, 1));

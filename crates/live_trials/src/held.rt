@@ -150,6 +150,11 @@ impl<'a, R: Clock> Desk<Answers<'a>> for Late<'a, R> {
         self.client.hear(sink, buffer)
     }
 
+    // Nobody comes back.
+    fn rest(&mut self, _sink: &Answers<'a>, _end: SessionEnd, _calls: u64) -> bool {
+        false
+    }
+
     fn close(&self, end: SessionEnd, calls: u64) {
         self.client.close(end, calls);
     }

@@ -7,6 +7,8 @@
 #[cfg(test)]
 mod alone;
 #[cfg(test)]
+mod back;
+#[cfg(test)]
 mod devices;
 #[cfg(test)]
 mod held;

@@ -44,6 +44,11 @@ impl<'a, R: Files + AllocGlobal> Desk<ExpectingSink<'a>> for Measured<'a, R> {
         self.lines.read(buffer)
     }
 
+    // Nobody comes back.
+    fn rest(&mut self, _sink: &ExpectingSink<'a>, _end: SessionEnd, _calls: u64) -> bool {
+        false
+    }
+
     fn close(&self, _end: SessionEnd, _calls: u64) {}
 }
 

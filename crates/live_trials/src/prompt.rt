@@ -86,6 +86,11 @@ impl<'a, R: Abort> Desk<Kept<'a, R>> for Watched<'a, R> {
         Ok(n)
     }
 
+    // Nobody comes back.
+    fn rest(&mut self, _sink: &Kept<'a, R>, _end: SessionEnd, _calls: u64) -> bool {
+        false
+    }
+
     fn close(&self, _end: SessionEnd, _calls: u64) {}
 }
 

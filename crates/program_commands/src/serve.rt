@@ -220,11 +220,13 @@ where
 /// a fault to `err`, and gives the status, with the devices and the book's writer as they have come
 /// back.
 ///
-/// A session whose devices fail has ended, and no more: the others go on, and the status is that of
-/// the book. Where the book can't be written any more, who calls from then on is told `unbooked`.
-/// Where a thread or memory was refused before the first session began, or the book's first line
-/// was not written, none begins; so it is where there are not devices for each process, and no
-/// others (`Ending::BadArguments`), and then nothing is written to the book.
+/// A session whose stream has ended, or whose answers can't be written, rests, and goes on with
+/// another stream as soon as its desk says so. One that can't be read has ended, and no more: the
+/// others go on, and the status is that of the book. Where the book can't be written any more, who
+/// calls from then on is told `unbooked`. Where a thread or memory was refused before the first
+/// session began, or the book's first line was not written, none begins; so it is where there are
+/// not devices for each process, and no others (`Ending::BadArguments`), and then nothing is
+/// written to the book.
 pub fn serve_on<R, S, O, E: Sink, B>(
     rt: &R,
     alloc: Global,

@@ -44,6 +44,11 @@ impl<'a> Desk<ExpectingSink<'a>> for Lines<'a> {
         self.lines.read(buffer)
     }
 
+    // Nobody comes back.
+    fn rest(&mut self, _sink: &ExpectingSink<'a>, _end: SessionEnd, _calls: u64) -> bool {
+        false
+    }
+
     fn close(&self, _end: SessionEnd, _calls: u64) {}
 }
 
@@ -361,6 +366,11 @@ impl<'a> Desk<ExpectingSink<'a>> for Looking<'a> {
 
     fn hear(&mut self, _sink: &ExpectingSink<'a>, buffer: &mut [u8]) -> Result<usize, Failed> {
         self.lines.read(buffer)
+    }
+
+    // Nobody comes back.
+    fn rest(&mut self, _sink: &ExpectingSink<'a>, _end: SessionEnd, _calls: u64) -> bool {
+        false
     }
 
     fn close(&self, _end: SessionEnd, _calls: u64) {}

@@ -9,4 +9,4 @@ mod standing;
 
 pub use board::Instance;
 pub use stage::{Aside, Begun, GivenUp, Stage};
-pub use standing::{Role, SentHome};
+pub use standing::{Gone, Role, SentHome};

@@ -51,7 +51,7 @@
 ghost use Rattle.std.specs.Prelude.{◌≡◌, IfOk, IfErr, true, false};
 
 use crate::board::Instance;
-use crate::standing::{Entry, Rest, Role, SentHome, Standing};
+use crate::standing::{Entry, Gone, Rest, Role, SentHome, Standing};
 use std::alloc::{AllocError, Global};
 use std::sync::atomic::{AtomicU64, Ordering};
 use std::sync::{Mutex, MutexGuard, Wait};
@@ -193,10 +193,37 @@ impl Stage {
     /// The rank has ended. Where it was the last that was awake, all that sleep are woken, for
     /// nothing that they sleep for can settle before one of them goes on.
     pub fn leave<R: Wait>(&self, rt: &R, role: Role) {
+        self.go(rt, role).lay_down();
+    }
+
+    /// The rank has ended for now, as by [`Stage::leave`]: until it comes back it counts as one that
+    /// has ended.
+    pub fn go<R: Wait>(&self, rt: &R, role: Role) -> Gone
+        ensures { result.rank ≡ role.rank }
+    {
+        let gone = Gone::of(role);
         let mut standing = self.standing.lock(rt);
-        let call = standing.end_for_all(role.lay_down());
+        let call = standing.end_for_all(gone.rank());
         drop(standing);
         call.ring(self.bells.as_slice());
+        gone
+    }
+
+    /// The rank is there again, and has stepped aside: it makes no call for a while.
+    pub fn come_back<R: Wait>(&self, rt: &R, gone: Gone) -> (Role, Aside)
+        ensures { result.0.rank ≡ gone.rank }
+    {
+        let rank = gone.rank();
+        let role = Role::of(gone);
+        let mut standing = self.standing.lock(rt);
+        standing.come_back(rank);
+        drop(standing);
+        (role, Aside { rank })
+    }
+
+    /// The rank that had gone does not come back.
+    pub fn end_gone(&self, gone: Gone) {
+        gone.lay_down();
     }
 
     /// Nobody sleeps any more: all that sleep are woken.

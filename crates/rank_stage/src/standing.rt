@@ -75,12 +75,47 @@ impl Role {
         self.rank
     }
 
+    /// The rank that comes back, to go on as it was.
+    pub(crate) fn of(gone: Gone) -> Role
+        ensures { result.rank ≡ gone.rank }
+    {
+        let Gone { rank } = gone;
+        Role { rank }
+    }
+
     /// The rank has played its part.
     pub(crate) fn lay_down(self) -> usize
         ensures { result ≡ self.rank }
     {
         let Role { rank } = self;
         rank
+    }
+}
+
+/// A rank that has ended for now. It has no `Drop`: it comes back by `Stage::come_back`, or has ended
+/// for good by `Stage::end_gone`.
+pub struct Gone {
+    rank: usize,
+}
+
+impl Gone {
+    /// The rank of this role.
+    pub(crate) fn of(role: Role) -> Gone
+        ensures { result.rank ≡ role.rank }
+    {
+        let Role { rank } = role;
+        Gone { rank }
+    }
+
+    pub(crate) fn rank(&self) -> usize
+        ensures { result ≡ self.now.rank }
+    {
+        self.rank
+    }
+
+    /// It does not come back.
+    pub(crate) fn lay_down(self) {
+        let Gone { rank: _ } = self;
     }
 }
 
@@ -340,6 +375,26 @@ impl Standing {
         self.board.take_off(rank);
         self.board.call_if_last(rank);
         Call(self.board.cast())
+    }
+
+    /// A rank that had ended, if there is one, is there again: it stands aside, and makes no call for
+    /// a while.
+    pub(crate) fn come_back(&mut self, rank: usize)
+        ensures stays { self.new.closed ≡ self.old.closed }
+        ensures aside { rank < length self.old.board.places.items →
+            place_of self.old.board rank ≡ Ended → place_of self.new.board rank ≡ Aside }
+        ensures same { place_of self.old.board rank ≢ Ended → self.new ≡ self.old }
+        ensures others { (other : ℕ) → other ≢ rank →
+            place_of self.new.board other ≡ place_of self.old.board other }
+        ensures rest { KeepsRest self.old.board self.new.board }
+    {
+        if rank >= self.board.places.len() {
+            return;
+        }
+        let Place::Ended = self.board.place_of(rank) else {
+            return;
+        };
+        self.board.set(rank, Place::Aside);
     }
 
     /// The rank has ended, wherever it stood. Where that was the last that was awake, all that sleep

@@ -1,10 +1,9 @@
-use Rattle.std.proofs.Common.{rules, ℕ, ◌≡◌, ◌<◌, ◌∙◌, None, length, take, refl, ap, sym, subst}
+use Rattle.std.proofs.Common.{rules, ◌≡◌, ◌<◌, ◌∙◌, length, take, refl, ap, sym}
 use Rattle.std.specs.Prelude.{option_map}
 use Rattle.hall_turn.specs.Known.{Doorway}
 use Rattle.live_session.proofs.SessionLemmas.{going_none, going_on, served_till_stop, served_to_end}
 use Rattle.live_session.specs.Sessions.{Stood}
-use Rattle.live_session.proofs.SessionLemmas.{took_none, none_counts, Going}
-use Rattle.hall_script.specs.Devices.{used}
+use Rattle.live_session.proofs.SessionLemmas.{took_none}
 use Rattle.live_session.proofs.setting.Setting.hold.Goals as goal
 
 pub loop-init : goal.loop-init
@@ -17,17 +16,13 @@ loop-init g c =
       none = c.new-text.ensures.items;
       same = (refl, refl);
       legal = c.requires.legal;
-      counts = none_counts c.args.self.now.most c.args.caller.now.calls pass c.requires.none;
+      counts = c.requires.counts;
+      keeps = c.requires.keeps;
       going = rw c.requires.unreceipted
-          (subst (λ (k : ℕ). Going (Stood g.M.Machine.stands g.M.Machine.booked)
-          c.args.self.now.most g.S.Desk.heard wall
-          (used g.S.Desk.failures g.S.Desk.remaining c.args.source.now c.args.source.now)
-          (used g.O.Sink.failures g.O.Sink.contents c.args.sink.now c.args.sink.now) pass
-          c.new-line.result None k pass) (sym c.requires.none)
           (going_none (Stood g.M.Machine.stands g.M.Machine.booked) c.args.self.now.most
-          g.S.Desk.failures g.S.Desk.remaining g.S.Desk.heard g.O.Sink.failures
-          g.O.Sink.contents wall pass c.new-line.result c.args.source.now c.args.sink.now is
-          c.requires.legal c.new-line.ensures));
+          c.args.caller.now.calls g.S.Desk.failures g.S.Desk.remaining g.S.Desk.heard
+          g.O.Sink.failures g.O.Sink.contents wall pass c.new-line.result c.args.source.now
+          c.args.sink.now is c.requires.legal c.new-line.ensures);
     }
 
 pub loop-preserved : goal.loop-preserved
@@ -41,8 +36,9 @@ loop-preserved g c =
       same = (e.same.0 ∙ i.same.0, e.same.1 ∙ i.same.1);
       legal = e.legal;
       counts = e.counts;
+      keeps = e.keeps;
       going = going_on (Stood g.M.Machine.stands g.M.Machine.booked) c.args.self.now.most
-          g.S.Desk.failures g.S.Desk.remaining g.S.Desk.heard g.O.Sink.failures
+          c.args.caller.now.calls g.S.Desk.failures g.S.Desk.remaining g.S.Desk.heard g.O.Sink.failures
           g.O.Sink.contents
           c.args.self.now.policy.now c.args.pass.now c.loop.pass c.take_in.new.pass
           c.loop.lines.line c.take_in.new.lines.line c.args.source.now c.loop.source
@@ -59,7 +55,7 @@ returns-then-n-eq0-clause-serves g c =
     let zero : c.in-Ok.n ≡ 0 = search rules in
     let room : 0 < length c.hear.new.buffer = search rules in
     served_to_end (Stood g.M.Machine.stands g.M.Machine.booked) c.args.self.now.most
-    g.S.Desk.failures g.S.Desk.remaining g.S.Desk.heard g.O.Sink.failures
+    c.args.caller.now.calls g.S.Desk.failures g.S.Desk.remaining g.S.Desk.heard g.O.Sink.failures
     g.O.Sink.contents c.args.self.now.policy.now c.args.pass.now c.loop.pass c.loop.lines.line
     c.args.source.now c.loop.source c.hear.new.self c.args.sink.now c.loop.sink
     (option_map g.T.Receipt.covers c.loop.caller.receipt) c.loop.caller.calls
@@ -72,7 +68,7 @@ returns-in-Err-take_in-clause-serves g c =
     let i = c.loop.invariant in
     let covers = option_map g.T.Receipt.covers in
     served_till_stop (Stood g.M.Machine.stands g.M.Machine.booked) c.args.self.now.most
-    g.S.Desk.failures g.S.Desk.remaining g.S.Desk.heard g.O.Sink.failures
+    c.args.caller.now.calls g.S.Desk.failures g.S.Desk.remaining g.S.Desk.heard g.O.Sink.failures
     g.O.Sink.contents
     c.args.self.now.policy.now c.args.pass.now c.loop.pass c.take_in.new.pass c.loop.lines.line
     c.args.source.now c.loop.source c.hear.new.self c.take_in.new.source c.args.sink.now

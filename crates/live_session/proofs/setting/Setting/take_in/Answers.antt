@@ -68,6 +68,7 @@ loop-part-init g c =
             c.requires.legal),
       );
       counts = c.requires.counts;
+      keeps = c.requires.keeps;
     }
 
 pub returns-in-Err-answer_line-clause-takes : goal.returns-in-Err-answer_line-clause-takes
@@ -137,6 +138,7 @@ later_so_far g c =
                 c.in-Some-next_long.ensures s.2) a,
           );
       counts = e.counts;
+      keeps = e.keeps;
     }
 
 pub loop-part-preserved : goal.loop-part-preserved

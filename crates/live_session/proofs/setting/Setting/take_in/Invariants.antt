@@ -5,6 +5,7 @@ use Rattle.hall_turn.specs.Answers.{IsSamePass}
 use Rattle.hall_script.specs.Devices.{used}
 use Rattle.coll_text.specs.Reading.{parts}
 use Rattle.live_session.specs.Sessions.{Stood}
+use Rattle.live_session.specs.Keeping.{Keeps}
 use Rattle.live_session.specs.Steps.{Counts, Holds, IsUnread, SoFar, behind, counting, showing}
 use Rattle.live_session.proofs.setting.Setting.take_in.Given as goal
 
@@ -23,6 +24,7 @@ invariant-loop-part g l = record {
       (used g.O.Sink.failures g.O.Sink.contents l.fn.sink l.sink)
       (counting l.fn.caller.calls l.caller.calls) l.pass;
   counts : Counts l.self.most l.caller.calls l.pass;
+  keeps : Keeps l.caller.seat.requests l.pass;
 }
 
 abbrev pub decreases-loop-part : goal.decreases-loop-part

@@ -22,6 +22,7 @@ returns-in_default g c =
           (Replied _) were are e.same
           (at_door door pass new.seen c.requires.door e.legal) e.answered e.gives;
       named = e.named;
+      keeps = e.keeps;
     }
 
 pub loop-init : goal.loop-init
@@ -41,6 +42,7 @@ loop-init g c =
           (waited_once g.M.Machine.stands g.M.Machine.booked pass new c.args.request
           (Replied c.in-Reply-Pending.field-0) were are e.same
           (at_door door pass new.seen c.requires.door e.legal) e.answered e.gives);
+      keeps = e.keeps;
     }
 
 pub returns-in_default-take : goal.returns-in_default-take
@@ -61,6 +63,7 @@ returns-in_default-take g c =
           (at_door door mid new.seen (i.same.0 ∙ c.requires.door) e.legal) e.answered
           e.gives;
       named = e.named;
+      keeps = e.keeps;
     }
 
 pub returns-in-Exhausted-clause-waited : goal.returns-in-Exhausted-clause-waited
@@ -96,6 +99,7 @@ loop-preserved-else-not-sleeps_on-2 g c =
           c.in-Reply-Pending-take.field-0 were are i.waited e.same
           (at_door door mid new.seen (i.same.0 ∙ c.requires.door) e.legal) e.answered
           e.gives);
+      keeps = e.keeps;
     }
 
 pub returns-then-not-sleeps_on-clause-waited : goal.returns-then-not-sleeps_on-clause-waited

@@ -4,6 +4,7 @@ use Rattle.run_model.specs.Replies.{Legal}
 use Rattle.hall_turn.specs.declared.answer.Answer.TheVariants.{Reply as Replied}
 use Rattle.hall_turn.specs.Answers.{IsSamePass}
 use Rattle.live_session.specs.Sessions.{Stood}
+use Rattle.live_session.specs.Keeping.{Keeps}
 use Rattle.live_session.specs.Steps.{Waited}
 use Rattle.live_session.proofs.setting.Setting.wait.Given as goal
 
@@ -13,4 +14,5 @@ invariant-loop g l = record {
   legal : Legal l.self.door.now.policy l.pass.seen;
   waited : Waited (Stood g.M.Machine.stands g.M.Machine.booked) l.fn.pass l.request
       (Replied Pending) (option_map g.T.Receipt.covers l.receipt) l.pass;
+  keeps : Keeps l.seat.requests l.pass;
 }

@@ -1,4 +1,4 @@
-use Rattle.std.proofs.Common.{rules, ◌≡◌, ℕ, true, false, refl, sym, subst}
+use Rattle.std.proofs.Common.{rules, ◌≡◌, ℕ, true, false, sym, subst}
 use Rattle.std.specs.Prelude.{option_map}
 use Rattle.hall_script.specs.declared.ask.Ask.TheVariants.{Wait}
 use Rattle.live_session.specs.declared.acting.Came.{Came}
