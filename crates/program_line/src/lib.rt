@@ -15,18 +15,3 @@ pub use commands::{LivePaths, Performed, perform};
 pub use devices::CountedFiles;
 pub use policy::served_policy;
 pub use serving::{Blanks, Complaints, Outcome, Output, Served, serve};
-
-#[cfg(test)]
-mod chain_tests;
-#[cfg(test)]
-mod cut_short_tests;
-#[cfg(test)]
-mod disk;
-#[cfg(test)]
-mod disk_tests;
-#[cfg(test)]
-mod files_tests;
-#[cfg(test)]
-mod looking_tests;
-#[cfg(test)]
-mod words_tests;

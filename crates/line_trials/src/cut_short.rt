@@ -1,6 +1,6 @@
 //! Calls that a signal cuts short: each is made again, and nothing is lost or told twice.
 use crate::disk::Refusal;
-use crate::files_tests::{Faults, NONE, commands, is_as_told, long_texts, used};
+use crate::uses::{Faults, NONE, commands, is_as_told, long_texts, used};
 use std::test::Fail;
 
 // More calls than a use of these files makes, at the files and at its output.

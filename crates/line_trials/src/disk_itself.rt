@@ -1,7 +1,7 @@
 //! The system in memory itself: it refuses what no command is to do, and it is seen that it was
 //! asked. A test that rests on it would else show nothing.
 use crate::disk::{Name, Refusal, Stream, System};
-use crate::files_tests::{disk_of, taken};
+use crate::uses::{disk_of, taken};
 use std::cell::RefCell;
 use std::fs::{File, OpenFile, OpenOptions};
 use std::io::{Read, Seek, SeekFrom, Write};

@@ -1,5 +1,5 @@
 //! What goes by a chain, from its words to the files that it opens.
-use crate::files_tests::{ALONE, Case, NONE, TO_SEAL, is_as_told, used};
+use crate::uses::{ALONE, Case, NONE, TO_SEAL, is_as_told, used};
 use std::process::{Abort, ExitCode};
 use std::test::Fail;
 

@@ -1,4 +1,4 @@
-use Rattle.program_line.proofs.files_tests.status_of.Given as goal
+use Rattle.line_trials.proofs.uses.status_of.Given as goal
 
 abbrev pub ghosts-serve-P-Ledger : goal.ghosts-serve-P-Ledger
 ghosts-serve-P-Ledger g a = record { name = a.blanks.policy.name; parts = a.blanks.policy.parts }

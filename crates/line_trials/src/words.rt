@@ -1,6 +1,6 @@
 //! What comes of the words of a command line: those that are refused, the names that are asked for,
 //! and the line on standard error.
-use crate::files_tests::{ALONE, Case, Faults, NONE, TO_SERVE, is_as_told, used};
+use crate::uses::{ALONE, Case, Faults, NONE, TO_SERVE, is_as_told, used};
 use std::io::Eprint;
 use std::process::{Abort, ExitCode};
 use std::sync::Wait;

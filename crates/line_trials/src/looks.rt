@@ -1,7 +1,7 @@
 //! Checks and reports over a system in memory: which file was not read, and why, and the page that
 //! is written behind a report.
 use crate::disk::{Name, Refusal};
-use crate::files_tests::{ALONE, Case, Ended, Faults, NONE, is_as_told, used};
+use crate::uses::{ALONE, Case, Ended, Faults, NONE, is_as_told, used};
 use std::io::Eprint;
 use std::process::{Abort, ExitCode};
 use std::sync::Wait;

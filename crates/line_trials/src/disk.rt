@@ -1,5 +1,5 @@
 //! A system in memory, for tests: its words, six files, and streams that keep what they are given.
-use crate::serving::{Complaints, Output};
+use program_line::{Complaints, Output};
 use std::alloc::Allocator;
 use std::cell::{Cell, RefCell};
 use std::env::FillError;
