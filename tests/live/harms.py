@@ -6,6 +6,7 @@ import time
 
 from beside import LONGEST, PATIENCE, ROUNDS, Beside
 from edges import library
+from live import consortium
 from live import House, Raw, Wrong, until, want
 
 # Seconds for which somebody stands in the middle of a line.
@@ -191,6 +192,20 @@ def stands_in_a_line(raw, comm, board):
     until(lambda: not board.goes_on(), "the others", 2 * LONGEST)
 
 
+def comes_and_goes(_, comm, board, house):
+    """One program after the other, each of which leaves answers unread and half a line."""
+    while board.goes_on():
+        try:
+            process = consortium.Process(str(house.pipes), "p0", timeout=1, resume=True)
+        except consortium.Gone:
+            # (when all others have left nobody comes back)
+            continue
+        process._pipes.send(b"info 0\nopen\nnext\n" * 50 + b"info %d" % comm, len)
+        board.made(1)
+        board.begins()
+        process.close()
+
+
 def leaves(raw, _, board):
     """Behind the split nothing more is posted, or said."""
     want(raw.ask("leave"), "left", "the leave")
@@ -332,6 +347,15 @@ def line_that_is_half(given):
     beside.end()
 
 
+def programs_that_come_and_go(given):
+    """A member whose programs come and go as fast as they can."""
+    beside = Beside(given, 30)
+    beside.raw.close()
+    beside.harmed_by(comes_and_goes, beside.house)
+    beside.grew_by_at_most(1024)
+    beside.end()
+
+
 def member_that_leaves(given):
     """Who leaves holds up what it is a member of, and who waits for that is told."""
     Beside(given, 1, last=finds_nobody).harmed_by(leaves).end()
@@ -387,5 +411,5 @@ def longest_books(given):
 
 TESTS = [request_never_taken, book_that_is_filled, no_room_is_left, disk_of_one, wide_instances,
          posts_ahead_of_all, wrong_first_posts, posts_that_are_denied, lines_that_are_long,
-         noise_beside, receipts_without_end, replies_not_read, line_that_is_half, member_that_leaves,
-         calls_are_used_up, longest_books]
+         noise_beside, receipts_without_end, replies_not_read, line_that_is_half,
+         programs_that_come_and_go, member_that_leaves, calls_are_used_up, longest_books]

@@ -40,7 +40,7 @@ class Mixed:
         for name in self.names:
             self.raws[name].close()
         for name in self.names:
-            self.house.await_event(f"{name} left")
+            self.house.await_event(f"{name} gone")
         self.go_on()
         self.board[8] = 1
         all_results(self.good)

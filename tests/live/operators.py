@@ -289,7 +289,7 @@ def who_does_not_read(given):
     want((set(lines[:-2]), lines[-2:]), ({b"info size 3 rank 0"}, [b"dismissed", b""]), "all of it")
     want(house.await_event("p0 left").endswith("calls: dismissed"), True, "the event")
     silent.close()
-    want(house.await_event("p1 left").endswith("calls: replies not read"), True, "who has gone")
+    want(house.await_event("p1 left").endswith("calls: dismissed"), True, "who has gone")
     want(asked(house, "end"), ["done"], "the end")
     the_end(other, "ended")
     house.end()

@@ -51,9 +51,11 @@ def pipes_that_are_not_opened(given):
         shut_out(house, "open to others")
         # Another pipe stands there, that is linked to.
         house, *pipes = of_two()
-        elsewhere = house.folder / "elsewhere"
-        pipes[number].rename(elsewhere)
-        pipes[number].symlink_to(elsewhere)
+        elsewhere, link = house.folder / "elsewhere", house.folder / "link"
+        os.link(pipes[number], elsewhere)
+        link.symlink_to(elsewhere)
+        # (at once: the server may open it at any moment)
+        link.replace(pipes[number])
         opened(house)
         shut_out(house, "no pipe, or another one than at the start")
         if os.geteuid() == 0:

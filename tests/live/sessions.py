@@ -114,9 +114,9 @@ def events_are_told(given):
     want(first.ask("post 0 barrier"), "posted 0", "p0's post")
     want(first.ask("take 0"), "pending", "p0's take")
     first.close()
-    house.await_event("p0 left")
+    house.await_event("p0 gone")
     Raw(house, "p1").close()
-    house.await_event("p1 left")
+    house.await_event("p1 gone")
     last = Raw(house, "p2")
     # Dropped, since nothing ends it: a client that dies in the middle of a line has not called.
     last.send(b"info 0\ninfo 0")
@@ -126,12 +126,14 @@ def events_are_told(given):
     events = house.events()
     want(events[0], "serving 3 processes", "the first event")
     want([event for event in events if event.startswith("p0")],
-         ["p0 came", "p0 left after 3 calls: end of stream"], "p0's events")
+         ["p0 came"] + [f"p0 {word} after 3 calls: end of stream" for word in ("gone", "left")],
+         "p0's events")
     want([event for event in events if event.startswith("p1")],
-         ["p1 came", "p1 left after 0 calls: end of stream"], "p1's events")
+         ["p1 came"] + [f"p1 {word} after 0 calls: end of stream" for word in ("gone", "left")],
+         "p1's events")
     want([event for event in events if event.startswith("p2")],
          ["p2 came", "p2 left after 1 calls: end of stream"], "p2's events")
-    want(events[-1:] + [len(events)], ["served 4 calls", 8], "the end of the events")
+    want(events[-1:] + [len(events)], ["served 4 calls", 10], "the end of the events")
 
 
 def events_have_their_times(given):
@@ -162,16 +164,16 @@ def events_have_their_times(given):
 
 
 def a_failed_write_ends_a_session(given):
-    """Who reads no replies any more has left, though its calls are open."""
+    """Who reads no replies any more is gone, though its calls are open."""
     house = House(given.program, neutral(2)).start()
     deaf, other = Raw(house, "p0"), Raw(house, "p1")
     want(deaf.ask("info 0"), "info size 2 rank 0", "an info")
     os.close(deaf.replies)
     deaf.replies = -1
     deaf.send(b"info 0\n")
-    house.await_event("p0 left")
+    house.await_event("p0 gone")
     want(other.ask("post 0 barrier"), "posted 0", "the other's post")
-    # Nobody is left who could settle it.
+    # Nobody is here who could settle it.
     want(other.ask("wait 0"), "pending", "the other's wait")
     want(other.ask("leave"), "left", "the other's leave")
     house.end()

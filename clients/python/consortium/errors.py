@@ -88,7 +88,7 @@ class NoRoom(ConsortiumError):
 
 
 class Stuck(ConsortiumError):
-    """A wait was answered `pending`: every other process has left or waits too.
+    """A wait was answered `pending`: every other process has left, is gone or waits too.
 
     The request stays, and may be waited for again.
 
@@ -100,7 +100,7 @@ class Stuck(ConsortiumError):
 class Gone(ConsortiumError):
     """The session is over. `cause` says why: "dismissed" (by the operator), "over" (the operator
     has ended the run), "ended" (the replies end), "unread" (nobody reads the calls), "exhausted",
-    "unbooked", "left" or "absent" (nobody opened the pipes in time).
+    "unbooked", "left" or "absent" (nobody opened the pipes in time, or answered who resumes).
 
     >>> Gone("ended", "the server has ended the session of solo").cause
     'ended'

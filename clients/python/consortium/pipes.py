@@ -13,6 +13,10 @@ from .errors import Gone
 
 PIECE = 1 << 20
 
+# The lines behind which stands nothing more, and the causes that they are.
+LAST_WORDS = {b"left": "left", b"exhausted": "exhausted", b"unbooked": "unbooked",
+              b"dismissed": "dismissed", b"ended": "over"}
+
 
 class Late(Exception):
     """The reply did not come in time. It is owed, and read before any other.
@@ -98,6 +102,30 @@ class Pipes:
             self.is_open = False
             os.close(self._calls)
             os.close(self._replies)
+
+    def begin_anew(self, number: int, timeout: Optional[float] = None) -> None:
+        """Ends what an earlier program at these pipes has left half written, by a line that asks for
+        nothing, and reads what it has left unread, up to the answer to a ping with this number.
+        `Gone` is raised with a cause of the session where that has ended, as "absent" where the answer
+        does not come in time, since a wait of that program goes on, and else with another.
+
+        >>> process._pipes.begin_anew(4711)
+        """
+        self._unwritten = b"?\nping %d\n" % number
+        self._flush()
+        end = None if timeout is None else time.monotonic() + timeout
+        # (Where nobody reads the calls, nobody answers: what is there is read, and not waited for.)
+        end = 0.0 if self._is_unread else end
+        try:
+            line = self._read_line(end)
+            while line != b"ping %d" % number:
+                if line in LAST_WORDS:
+                    raise Gone(LAST_WORDS[line], f"the session has ended: {line.decode('ascii')}")
+                line = self._read_line(end)
+        except Late:
+            if self._is_unread:
+                raise Gone("unread", "nobody reads the calls") from None
+            raise Gone("absent", "a wait of an earlier program goes on") from None
 
     def send(self, line: bytes, then: Callable[[bytes], None]) -> None:
         """Writes a line, whose reply `then` is to have.

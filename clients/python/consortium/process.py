@@ -3,7 +3,9 @@
 from __future__ import annotations
 
 import os
+import random
 import threading
+import time
 from typing import Any, Callable, List, Optional, Tuple
 
 from .comm import Comm
@@ -21,6 +23,11 @@ class Process:
     pipes, for at most `timeout` seconds where that is given, and then raises `Gone`. Used in a
     `with` statement it leaves at the end.
 
+    With `resume` it goes on where an earlier program of this process has died: `resumed` has its
+    requests that are not taken, each of which gives its delivery as a list of blocks, and `posts` is
+    the number of its next one. What that program was told and did not read is lost. (Without it,
+    what that one did not read would be taken for answers to this one's lines.)
+
     One exchange goes at a time: threads that share a process take turns, and who waits keeps the
     others out. An exchange that was interrupted (by ^C, or a timeout) is ended by the next: its
     reply is then handed to the request that it is of. A post that was interrupted stands all the
@@ -31,12 +38,19 @@ class Process:
     """
 
     def __init__(self, folder: str, name: str, label: Optional[str] = None,
-                 timeout: Optional[float] = None) -> None:
+                 timeout: Optional[float] = None, resume: bool = False) -> None:
         self.name, self.label = name, None if label is None else one_word(label)
         self.interrupted: List[Request] = []
         self._lock = threading.RLock()
-        self._pipes = Pipes(os.path.join(folder, name), timeout)
+        self.resumed: List[Request] = []
+        self.posts = 0
+        path = os.path.join(folder, name)
+        self._pipes = opened_anew(path, timeout) if resume else Pipes(path, timeout)
         try:
+            if resume:
+                self.resumed = [Request(self, int(word), None, "slots", False)
+                                for word in self._call("open")[1:]]
+                self.posts = int(self._call("next")[1])
             size, rank, _ = self._info(0)
         except BaseException:
             self.close()
@@ -78,7 +92,7 @@ class Process:
             raise ConsortiumError(f"no receipt: {reply[:100]!r}") from None
 
     def leave(self) -> None:
-        """Ends the session. The others go on; what is still open of this process stays so.
+        """Ends the session, for good. The others go on; what is still open of this process stays so.
 
         >>> spare.leave()
         """
@@ -89,7 +103,7 @@ class Process:
                 self.close()
 
     def close(self) -> None:
-        """Closes the pipes and says nothing, by which the session ends too.
+        """Closes the pipes and says nothing: the process is gone, and another program may go on.
 
         >>> spare.close()
         """
@@ -171,6 +185,28 @@ class Process:
     def _info(self, number: int) -> Tuple[int, int, Optional[int]]:
         words = self._call(f"info {number}")
         return int(words[2]), int(words[4]), int(words[6]) if len(words) > 6 else None
+
+
+def opened_anew(path: str, timeout: Optional[float]) -> Pipes:
+    """The pipes of a process whose earlier program is gone, if there was one.
+
+    >>> callable(opened_anew)
+    True
+    """
+    while True:
+        pipes = Pipes(path, timeout)
+        try:
+            pipes.begin_anew(random.SystemRandom().getrandbits(62), timeout)
+            return pipes
+        except Gone as gone:
+            pipes.close()
+            if gone.cause not in ("ended", "unread"):
+                raise
+            # The server has closed what that program had left open, and opens it again.
+            time.sleep(0.01)
+        except BaseException:
+            pipes.close()
+            raise
 
 
 def words_of(reply: bytes, call: str) -> List[bytes]:
