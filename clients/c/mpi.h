@@ -210,6 +210,29 @@ int MPIX_Get_label(char *label);
  * Each has room for MPIX_MAX_NAME bytes. With no denial so far they are empty. */
 int MPIX_Denial_get(char *rule, char *process, char *label);
 
+/* A program that dies leaves its process to another one, which goes on where it was (docs/MPI.md,
+ * "A program that dies"). That one calls MPIX_Resume before MPI_Init; else MPI_Init fails where an
+ * earlier program has posted. What the server wrote to that one and it did not read is lost. */
+int MPIX_Resume(void);
+/* How many posts of this process count, those of earlier programs too: the next has this number. A
+ * call is one post, but for an array that is cut, and for MPI_Comm_split, which may be two. */
+int MPIX_Posts(MPI_Count *posts);
+/* How many requests earlier programs had not taken as MPI_Init returned: 256 at most. */
+int MPIX_Resumed(int *open);
+/* One of them, with an index from 0 in the order of the posts, once: the number of its post, and a
+ * request for MPI_Wait, MPI_Test and their like. What this process gets stands in `buffer` then,
+ * all elements one behind the other, of which MPI_Get_count tells how many came. There is room for
+ * `count` of `type`, or it is MPI_ERR_TRUNCATE, and MPI_ERR_TYPE where a number is none of the
+ * type. A constructor gives the number of its communicator as one element, or none where this
+ * process is in none. */
+int MPIX_Resumed_request(int index, MPI_Count *number, void *buffer, int count, MPI_Datatype type,
+                         MPI_Request *request);
+/* The number by which the server knows a communicator, to be kept for MPIX_Comm_resume. */
+int MPIX_Comm_number(MPI_Comm comm, int *number);
+/* A communicator that an earlier program of this process has made, but the world. Of its members
+ * only this process is known, and of a grid nothing. */
+int MPIX_Comm_resume(int number, MPI_Comm *comm);
+
 #include "mpi_functions.h"
 
 #define MPI_LONG_LONG MPI_LONG_LONG_INT

@@ -1,6 +1,7 @@
 /* The way of a collective to the server and back. */
 #include "collective.h"
 
+#include <stdio.h>
 #include <stdlib.h>
 #include <string.h>
 
@@ -170,7 +171,56 @@ static int read_blocks(const struct call *call, const struct reply *reply) {
     }
 }
 
+/* All elements of all blocks, one behind the other. */
+static int read_all(struct ompi_request_t *request, const struct reply *reply) {
+    struct blocks blocks = {reply->blocks, reply->end};
+    const struct side *side = &request->call.get;
+    struct place place = place_first(side->buffer, side->count, side->type);
+    enum element wire = side->type->element;
+    const struct run *run = NULL;
+    MPI_Count left = 0;
+    char *at = NULL;
+    enum block block;
+    while ((block = blocks_next(&blocks)) == OPEN_BLOCK || block == MISSING_BLOCK) {
+        int found = block == OPEN_BLOCK;
+        while (found > 0) {
+            int64_t value;
+            at = left > 0 ? at : place_span(&place, &run, &left);
+            found = at == NULL ? blocks_number(&blocks, wire, &value)
+                               : blocks_span(&blocks, wire, run, at, 1);
+            if (found > 0 && at == NULL) {
+                return MPI_ERR_TRUNCATE;
+            }
+            if (found > 0) {
+                request->bytes += (size_t)run->width;
+                at += run->width;
+                left--;
+            }
+        }
+        if (found < 0) {
+            return MPI_ERR_TYPE;
+        }
+    }
+    return block == NO_BLOCK ? MPI_SUCCESS : MPI_ERR_INTERN;
+}
+
+/* What came of a request of an earlier program: of a constructor's the communicator's number. */
+static int resumed_outcome(struct ompi_request_t *request, const struct reply *reply) {
+    char text[16];
+    struct reply number = {.answer = DELIVERED, .blocks = text};
+    if (reply->answer == NEW_COMM || reply->answer == NULL_COMM) {
+        int is_made = reply->answer == NEW_COMM;
+        number.end = text + (is_made ? snprintf(text, sizeof text, "[%u]", reply->number)
+                                     : snprintf(text, sizeof text, "[]"));
+        return read_all(request, &number);
+    }
+    return reply->answer == DELIVERED ? read_all(request, reply) : class_of_reply(reply);
+}
+
 static int outcome(struct ompi_request_t *request, const struct reply *reply) {
+    if (request->is_resumed) {
+        return resumed_outcome(request, reply);
+    }
     if (reply->answer == DELIVERED) {
         return request->call.kind == NULL ? MPI_ERR_INTERN : read_blocks(&request->call, reply);
     }

@@ -52,11 +52,13 @@ struct plan {
 
 struct ompi_request_t {
     enum { REQUEST_IDLE, REQUEST_POSTED, REQUEST_DONE } state;
-    bool is_persistent;
+    bool is_persistent, is_resumed;
     uint64_t number;  /* of the first piece; the others' follow */
     MPI_Count posted; /* pieces of a call, or 1 */
     int error;        /* of the outcome, once it is done */
-    /* What the outcome is for: a collective, or where `made` is given a communicator. */
+    size_t bytes;     /* that a resumed one has delivered */
+    /* What the outcome is for: a collective, or where `made` is given a communicator, or where it is
+     * resumed all that comes, one element behind the other. */
     struct call call;
     MPI_Comm *made;
     struct plan *plan;

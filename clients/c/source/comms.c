@@ -287,6 +287,32 @@ int MPI_Comm_split_type(MPI_Comm comm, int type, int key, MPI_Info info, MPI_Com
     return raised(comm, comm_construct(self, "", plan_new(self->group, NULL), made), __func__);
 }
 
+int MPIX_Comm_number(MPI_Comm comm, int *number) {
+    if (!comm_is_good(comm) || comm->is_local) {
+        return raised(comm, MPI_ERR_COMM, __func__);
+    }
+    *number = (int)comm->number;
+    return MPI_SUCCESS;
+}
+
+int MPIX_Comm_resume(int number, MPI_Comm *made) {
+    struct reply reply;
+    struct plan plan = {0};
+    int code = number > 0 ? session_ask(&reply, "info %d", number) : MPI_ERR_COMM;
+    if (code == MPI_SUCCESS && reply.answer != INFO) {
+        code = class_of_reply(&reply);
+    }
+    if (code == MPI_SUCCESS && (reply.size > MOST_MEMBERS || reply.rank >= reply.size)) {
+        code = MPI_ERR_INTERN;
+    }
+    if (code == MPI_SUCCESS) {
+        reply.number = (uint32_t)number;
+        *made = comm_new(MPI_COMM_WORLD, &reply, &plan);
+        code = *made == NULL ? MPI_ERR_NO_MEM : MPI_SUCCESS;
+    }
+    return raised(NULL, code, __func__);
+}
+
 int MPI_Comm_free(MPI_Comm *comm) {
     if (!comm_is_good(*comm) || *comm == MPI_COMM_WORLD || *comm == MPI_COMM_SELF) {
         return raised(*comm, MPI_ERR_COMM, __func__);

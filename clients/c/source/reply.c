@@ -60,7 +60,9 @@ static bool read_small(struct words *line, const char *before, uint32_t *number)
 static bool read_rest(struct words *line, struct reply *reply) {
     uint32_t dimensions;
     switch (reply->answer) {
-    case POSTED: return read_number(line, &reply->request);
+    case POSTED:
+    case PONG:
+    case NEXT_REQUEST: return read_number(line, &reply->request);
     case BARRED: return read_number(line, &reply->request) && read_name(line, reply->label);
     case NEW_COMM:
         return read_small(line, NULL, &reply->number) && read_small(line, "rank", &reply->rank) &&
@@ -73,6 +75,7 @@ static bool read_rest(struct words *line, struct reply *reply) {
                read_name(line, reply->label);
     case REFUSED:
     case BAD: return read_name(line, reply->reason);
+    case OPEN_REQUESTS:
     case DELIVERED:
         reply->blocks = line->at;
         reply->end = line->end;
@@ -89,7 +92,8 @@ void reply_read(const char *text, size_t length, struct reply *reply) {
         [DENIED] = "denied",     [INFO] = "info",           [REFUSED] = "refused",
         [BAD] = "bad",           [LEFT] = "left",           [EXHAUSTED] = "exhausted",
         [UNBOOKED] = "unbooked", [DISMISSED] = "dismissed", [RUN_ENDED] = "ended",
-        [DELIVERED] = "delivered", [MALFORMED] = "",
+        [DELIVERED] = "delivered", [PONG] = "ping",      [OPEN_REQUESTS] = "open",
+        [NEXT_REQUEST] = "next", [MALFORMED] = "",
     };
     struct words line = {text, text + length};
     struct words first = next_word(&line);
@@ -102,6 +106,18 @@ void reply_read(const char *text, size_t length, struct reply *reply) {
     if (!read_rest(&line, reply) || line.at != line.end) {
         reply->answer = MALFORMED;
     }
+}
+
+int reply_requests(const struct reply *reply, uint64_t *numbers) {
+    struct words line = {reply->blocks, reply->end};
+    int count = 0;
+    for (; line.at != line.end; count++) {
+        if (count == MOST_REQUESTS || !read_number(&line, &numbers[count]) ||
+            (count > 0 && numbers[count] <= numbers[count - 1])) {
+            return -1;
+        }
+    }
+    return count;
 }
 
 enum block blocks_next(struct blocks *blocks) {

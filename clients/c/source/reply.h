@@ -11,20 +11,25 @@
 
 enum answer {
     MALFORMED, POSTED, BARRED, PENDING, DELIVERED, NEW_COMM, NULL_COMM, NO_ROOM, DENIED, INFO,
-    REFUSED, BAD, LEFT, EXHAUSTED, UNBOOKED, DISMISSED, RUN_ENDED
+    REFUSED, BAD, PONG, OPEN_REQUESTS, NEXT_REQUEST, LEFT, EXHAUSTED, UNBOOKED, DISMISSED,
+    RUN_ENDED
 };
 
 struct reply {
     enum answer answer;
-    uint64_t request;            /* POSTED, BARRED */
+    uint64_t request;            /* POSTED, BARRED, NEXT_REQUEST; PONG: the number of the ping */
     uint32_t number, rank, size; /* NEW_COMM, INFO */
     char rule[MPIX_MAX_NAME], process[MPIX_MAX_NAME], label[MPIX_MAX_NAME]; /* DENIED */
     char reason[MPIX_MAX_NAME];                                             /* REFUSED, BAD */
-    const char *blocks, *end;                                               /* DELIVERED */
+    const char *blocks, *end; /* DELIVERED; OPEN_REQUESTS: the numbers */
 };
 
 /* Reads a line without its LF. */
 void reply_read(const char *line, size_t length, struct reply *reply);
+
+/* The numbers of OPEN_REQUESTS: how many, or -1 where they are not such, in ascending order, or more
+ * than MOST_REQUESTS. */
+int reply_requests(const struct reply *reply, uint64_t *numbers);
 
 /* Where a delivery is read. */
 struct blocks {

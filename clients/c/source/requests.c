@@ -22,6 +22,9 @@ static void hold_side(const struct call *call, const struct side *side,
                       void (*hold)(MPI_Datatype)) {
     const struct kind *kind = call->kind;
     bool is_given = side == &call->give;
+    if (kind == NULL && side->type != NULL) {
+        hold(side->type);
+    }
     if (kind == NULL || side->buffer == MPI_IN_PLACE ||
         !takes_part(is_given ? kind->giver : kind->getter, call)) {
         return;
@@ -137,18 +140,22 @@ static bool is_done(MPI_Request request) {
     return !is_active(request) || request->state == REQUEST_DONE;
 }
 
-/* The status of a collective is empty. A call for one request leaves its error field as it is. */
-static void set_status(MPI_Status *status) {
+/* The status of a collective is empty, but for one that is resumed. A call for one request leaves
+ * its error field as it is. */
+static void set_status(MPI_Status *status, size_t bytes) {
     if (status != MPI_STATUS_IGNORE) {
-        *status = (MPI_Status){MPI_ANY_SOURCE, MPI_ANY_TAG, status->MPI_ERROR, 0, 0};
+        *status = (MPI_Status){MPI_ANY_SOURCE, MPI_ANY_TAG, status->MPI_ERROR, 0, bytes};
     }
 }
 
-static void set_full_status(MPI_Status *status, int code) {
+static void set_full_status(MPI_Status *status, int code, size_t bytes) {
     if (status != MPI_STATUS_IGNORE) {
-        *status = (MPI_Status){MPI_ANY_SOURCE, MPI_ANY_TAG, code, 0, 0};
+        *status = (MPI_Status){MPI_ANY_SOURCE, MPI_ANY_TAG, code, 0, bytes};
     }
 }
+
+/* What a status tells of it. */
+static size_t bytes_of(MPI_Request request) { return is_active(request) ? request->bytes : 0; }
 
 /* Ends a request that is done: what came of it. */
 static int end(MPI_Request *request) {
@@ -175,7 +182,7 @@ static int told(MPI_Request *request, MPI_Status *status, const char *function) 
     if (comm != NULL) {
         comm_retain(comm);
     }
-    set_status(status);
+    set_status(status, bytes_of(*request));
     int code = raised(comm, end(request), function);
     if (comm != NULL) {
         comm_release(comm);
@@ -197,7 +204,7 @@ int MPI_Test(MPI_Request *request, int *flag, MPI_Status *status) {
 int MPI_Request_get_status(MPI_Request request, int *flag, MPI_Status *status) {
     *flag = is_done(request);
     if (*flag) {
-        set_status(status);
+        set_status(status, bytes_of(request));
     }
     return MPI_SUCCESS;
 }
@@ -208,8 +215,9 @@ static int end_all(int count, MPI_Request *requests, MPI_Status *statuses, const
     for (int i = 0; i < count; i++) {
         int code = is_active(requests[i]) ? ask(requests[i], "wait") : MPI_SUCCESS;
         MPI_Status *status = statuses == MPI_STATUSES_IGNORE ? MPI_STATUS_IGNORE : &statuses[i];
+        size_t bytes = bytes_of(requests[i]);
         code = code == MPI_SUCCESS ? end(&requests[i]) : code;
-        set_full_status(status, code);
+        set_full_status(status, code, bytes);
         has_failed |= code != MPI_SUCCESS;
     }
     return raised(NULL, has_failed ? MPI_ERR_IN_STATUS : MPI_SUCCESS, function);
@@ -242,14 +250,16 @@ static int first_done(int count, MPI_Request *requests, int *left) {
 }
 
 /* The one that is done first: where all are of one communicator, the one that was posted first, since
- * each member posts its collectives in the same order. MPI_UNDEFINED where they are of several. */
+ * each member posts its collectives in the same order. MPI_UNDEFINED where they are of several, or
+ * an earlier program's, which may be of any. */
 static int first_to_end(int count, MPI_Request *requests) {
     int first = MPI_UNDEFINED;
     for (int i = 0; i < count; i++) {
         if (!is_active(requests[i])) {
             continue;
         }
-        if (first != MPI_UNDEFINED && requests[i]->call.comm != requests[first]->call.comm) {
+        if (first != MPI_UNDEFINED && (requests[i]->call.comm != requests[first]->call.comm ||
+                                       requests[i]->is_resumed || requests[first]->is_resumed)) {
             return MPI_UNDEFINED;
         }
         if (first == MPI_UNDEFINED || requests[i]->number < requests[first]->number) {
@@ -281,7 +291,7 @@ int MPI_Waitany(int count, MPI_Request *requests, int *index, MPI_Status *status
     if (code == MPI_SUCCESS && *index != MPI_UNDEFINED) {
         return told(&requests[*index], status, __func__);
     }
-    set_status(status);
+    set_status(status, 0);
     return raised(NULL, code, __func__);
 }
 
@@ -293,7 +303,7 @@ int MPI_Testany(int count, MPI_Request *requests, int *index, int *flag, MPI_Sta
         return told(&requests[*index], status, __func__);
     }
     if (*flag) {
-        set_status(status);
+        set_status(status, 0);
     }
     return MPI_SUCCESS;
 }
@@ -310,8 +320,9 @@ static int some(int count, MPI_Request *requests, int *done, int *indices, MPI_S
         is_any = true;
         if (is_done(requests[i])) {
             bool is_ignored = statuses == MPI_STATUSES_IGNORE;
+            size_t bytes = bytes_of(requests[i]);
             int code = end(&requests[i]);
-            set_full_status(is_ignored ? MPI_STATUS_IGNORE : &statuses[*done], code);
+            set_full_status(is_ignored ? MPI_STATUS_IGNORE : &statuses[*done], code, bytes);
             has_failed |= code != MPI_SUCCESS;
             indices[(*done)++] = i;
         }

@@ -61,23 +61,6 @@ uint64_t session_next_request(void) { return next_request; }
 
 void session_count_request(void) { next_request++; }
 
-int session_open(const char *folder, const char *name) {
-    char path[4096];
-    if (snprintf(path, sizeof path, "%s/%s.replies", folder, name) >= (int)sizeof path) {
-        return MPI_ERR_ARG;
-    }
-    /* The replies first, as the server does, and without waiting for it. */
-    replies = open(path, O_RDONLY | O_NONBLOCK | O_CLOEXEC);
-    snprintf(path, sizeof path, "%s/%s.calls", folder, name);
-    calls = replies < 0 ? -1 : open(path, O_WRONLY | O_CLOEXEC);
-    if (calls < 0) {
-        fprintf(stderr, "consortium: %s: %s\n", path, strerror(errno));
-        session_close();
-        return MPIX_ERR_GONE;
-    }
-    return MPI_SUCCESS;
-}
-
 void session_close(void) {
     if (calls >= 0) {
         close(calls);
@@ -192,6 +175,89 @@ int session_ask(struct reply *reply, const char *form, ...) {
     line[length] = '\n';
     int code = session_write(line, (size_t)length + 1);
     return code == MPI_SUCCESS ? session_read(reply) : code;
+}
+
+static int open_both(const char *folder, const char *name) {
+    char path[4096];
+    if (snprintf(path, sizeof path, "%s/%s.replies", folder, name) >= (int)sizeof path) {
+        return MPI_ERR_ARG;
+    }
+    is_joined = is_gone = false;
+    in.length = told = 0;
+    /* The replies first, as the server does, and without waiting for it. */
+    replies = open(path, O_RDONLY | O_NONBLOCK | O_CLOEXEC);
+    snprintf(path, sizeof path, "%s/%s.calls", folder, name);
+    calls = replies < 0 ? -1 : open(path, O_WRONLY | O_CLOEXEC);
+    if (calls < 0) {
+        fprintf(stderr, "consortium: %s: %s\n", path, strerror(errno));
+        session_close();
+        return MPIX_ERR_GONE;
+    }
+    return MPI_SUCCESS;
+}
+
+/* A number that no earlier program has asked for. */
+static uint64_t own_number(void) {
+    struct timespec now;
+    clock_gettime(CLOCK_REALTIME, &now);
+    return ((uint64_t)now.tv_sec * 1000000000 + (uint64_t)now.tv_nsec) ^ (uint64_t)getpid() << 44;
+}
+
+/* Writes the first lines: false where nobody reads the calls. */
+static bool write_first(const char *lines, size_t length) {
+    ssize_t written;
+    do {
+        written = write_quietly(lines, length); /* so few bytes are written whole */
+    } while (written < 0 && errno == EINTR);
+    return written > 0;
+}
+
+/* An earlier program may have left a line half written, and answers unread: so first there comes a
+ * line that asks for nothing, and a ping, and all answers up to that are dropped. `again` is set
+ * where the pair is closed and no last word was read: the server has just seen that the earlier
+ * program is gone, and opens it again. */
+static int begin(struct past *past, bool *again) {
+    struct reply reply = {.answer = MALFORMED};
+    char lines[64];
+    uint64_t number = own_number();
+    int code, length = snprintf(lines, sizeof lines, "?\nping %llu\nopen\nnext\n",
+                                (unsigned long long)number);
+    if (!write_first(lines, (size_t)length)) {
+        is_joined = true; /* so nothing is waited for: what is there is read */
+    }
+    do {
+        reply.answer = MALFORMED;
+        code = session_read(&reply);
+        code = code == MPI_SUCCESS && reply.answer == LEFT ? gone() : code;
+    } while (code == MPI_SUCCESS && (reply.answer != PONG || reply.request != number));
+    if (code == MPI_SUCCESS) {
+        code = session_read(&reply);
+        past->open = reply.answer == OPEN_REQUESTS ? reply_requests(&reply, past->requests) : -1;
+    }
+    if (code == MPI_SUCCESS) {
+        code = session_read(&reply);
+        next_request = reply.request;
+    }
+    *again = code == MPIX_ERR_GONE && reply.answer < LEFT;
+    if (code == MPI_SUCCESS && (past->open < 0 || reply.answer != NEXT_REQUEST)) {
+        session_close();
+        return MPI_ERR_INTERN;
+    }
+    return code;
+}
+
+int session_open(const char *folder, const char *name, struct past *past) {
+    for (;;) {
+        bool again = false;
+        int code = open_both(folder, name);
+        if (code == MPI_SUCCESS) {
+            code = begin(past, &again);
+        }
+        if (!again) {
+            return code;
+        }
+        nanosleep(&(struct timespec){0, 10000000}, NULL);
+    }
 }
 
 void session_leave(void) {

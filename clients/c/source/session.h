@@ -19,8 +19,16 @@ bool text_reserve(struct text *text, size_t more);
 /* Appends, as printf would. */
 bool text_add(struct text *text, const char *form, ...) __attribute__((format(printf, 2, 3)));
 
-/* Opens the pipes of process `name` in `folder`, and waits until the server has. An error class. */
-int session_open(const char *folder, const char *name);
+/* What earlier programs of a process have left: their requests that are not taken, in ascending
+ * order. */
+struct past {
+    int open;
+    uint64_t requests[MOST_REQUESTS];
+};
+
+/* Opens the pipes of process `name` in `folder`, waits until the server has, and drops what earlier
+ * programs did not read. An error class. */
+int session_open(const char *folder, const char *name, struct past *past);
 /* Whether there is a session: else MPIX_ERR_GONE, or MPI_ERR_OTHER before and after MPI. */
 int session_check(void);
 /* Says that it leaves. */

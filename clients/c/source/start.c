@@ -8,6 +8,7 @@
 #include "comms.h"
 #include "errors.h"
 #include "labels.h"
+#include "resume.h"
 
 static enum { NOT_YET, RUNNING, ENDED } state;
 static int level;
@@ -59,7 +60,12 @@ static int begin(void) {
         }
         strcpy(label, given);
     }
-    int code = session_open(folder, name);
+    int code = resume_begin(folder, name);
+    if (code == MPI_SUCCESS && !resume_is_meant()) {
+        session_close();
+        return failed("an earlier program of this process has posted: one that goes on where it "
+                      "died calls MPIX_Resume first");
+    }
     if (code == MPI_SUCCESS) {
         code = session_ask(&reply, "info 0");
     }

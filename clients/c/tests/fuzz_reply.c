@@ -30,7 +30,12 @@ int LLVMFuzzerTestOneInput(const uint8_t *data, size_t size) {
     request.call.get = (struct side){.buffer = room, .count = 2, .type = type};
     request.call.give = request.call.get;
     request.call.pieces = request.posted = data[0] / 12 % 3;
+    request.is_resumed = data[0] / 36 % 2;
     reply_read(line, size - 1, &reply);
+    if (reply.answer == OPEN_REQUESTS) {
+        static uint64_t open[MOST_REQUESTS];
+        reply_requests(&reply, open);
+    }
     call_settle(&request, &reply);
     if (request.state == REQUEST_POSTED && request.call.piece > 0) {
         call_settle(&request, &reply);

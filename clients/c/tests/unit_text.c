@@ -58,6 +58,20 @@ static void replies(void) {
     CHECK(strcmp(reply.process, "b0") == 0 && strcmp(reply.label, "alpha") == 0);
     CHECK(read_line("refused Mismatch").answer == REFUSED);
     CHECK(read_line("bad BadShape").answer == BAD);
+    reply = read_line("ping 18446744073709551615");
+    CHECK(reply.answer == PONG && reply.request == UINT64_MAX);
+    reply = read_line("next 7");
+    CHECK(reply.answer == NEXT_REQUEST && reply.request == 7);
+    static uint64_t open[MOST_REQUESTS];
+    reply = read_line("open 3 8 18446744073709551615");
+    CHECK(reply.answer == OPEN_REQUESTS && reply_requests(&reply, open) == 3);
+    CHECK(open[0] == 3 && open[1] == 8 && open[2] == UINT64_MAX);
+    reply = read_line("open");
+    CHECK(reply.answer == OPEN_REQUESTS && reply_requests(&reply, open) == 0);
+    reply = read_line("open 8 3");
+    CHECK(reply_requests(&reply, open) == -1);
+    reply = read_line("open 8 x");
+    CHECK(reply_requests(&reply, open) == -1);
     CHECK(read_line("pending").answer == PENDING && read_line("null").answer == NULL_COMM);
     CHECK(read_line("noroom").answer == NO_ROOM && read_line("left").answer == LEFT);
     const char *const NONE[] = {
