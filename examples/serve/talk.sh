@@ -10,7 +10,7 @@ dir=$1 name=$2 label=$3
 read -r number
 
 # In this order, which is the server's: each of the two waits for the other side. Both stay open to
-# the end: a session ends when its calls are closed.
+# the end: a process is gone when its calls are closed.
 exec 4<"$dir/$name.replies" 3>"$dir/$name.calls"
 
 ask() {
