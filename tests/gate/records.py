@@ -12,9 +12,15 @@ import subprocess
 
 NAME = "TRIED.md"
 HEAD = "Written by `tests/try_edits`, which had just seen each edit here refused at a goal.\n\n"
+# (a gate elsewhere saw it; its own record went with its checkout)
+TAKEN = "Taken from what a gate printed, which had just seen each edit here refused at a goal.\n\n"
 FORM = re.compile(
-    re.escape(HEAD)
+    f"(?:{re.escape(HEAD)}|{re.escape(TAKEN)})"
     + r"    own ([0-9a-f]{64})\n    below ([0-9a-f]{64})\n    refused (\d+)\n    on (\d{4}-\d\d-\d\d)\n"
+)
+# A record as a gate prints it.
+LINE = re.compile(
+    r"record (\w+) own ([0-9a-f]{64}) below ([0-9a-f]{64}) refused (\d+) on (\d{4}-\d\d-\d\d)$", re.M
 )
 # What is known of a crate's edits, the most doubtful first.
 NEVER, CHANGED, BELOW, SEEN = "never seen", "changed", "changed below", "seen"
@@ -85,8 +91,17 @@ def state_of(top, crates, name, by):
     return SEEN if found[2] == below else BELOW
 
 
-def write(top, name, sums, refused):
-    """Writes the record of a crate whose edits were all refused, over files with these sums."""
-    text = f"{HEAD}    own {sums[0]}\n    below {sums[1]}\n    refused {refused}\n"
-    text += f"    on {datetime.date.today().isoformat()}\n"
+def today():
+    return datetime.date.today().isoformat()
+
+
+def line(name, sums, refused):
+    """The record of a crate whose edits were all refused, over files with these sums, in a line."""
+    return f"record {name} own {sums[0]} below {sums[1]} refused {refused} on {today()}"
+
+
+def write(top, name, sums, refused, day=None):
+    """Writes that record: of today, seen here, or of another day, taken from what a gate printed."""
+    text = f"{TAKEN if day else HEAD}    own {sums[0]}\n    below {sums[1]}\n    refused {refused}\n"
+    text += f"    on {day or today()}\n"
     (top / "crates" / name / "must-fail" / NAME).write_text(text, encoding="utf-8")
