@@ -28,7 +28,7 @@ use Rattle.audit_book.specs.Checks.{Stands, bare}
 use Rattle.audit_book.proofs.AuditBookLemmas.{bare_posts}
 use Rattle.book_report.specs.declared.bar.Bar.{Bar}
 use Rattle.book_report.specs.Held.{histories_after, posts_to, IsPostAt}
-use Rattle.book_report.specs.Bars.{IsBar, IsBarredAt, AreBars}
+use Rattle.book_report.specs.Bars.{IsBar, IsBarredAt, AreBarsTo}
 use Rattle.book_report.proofs.WalkLemmas.{post_at}
 
 -- the rule as a test passes where the rule does
@@ -40,7 +40,7 @@ none_low : (m : ℕ) → 1 ≤ m → m ≤ 0 → ⊥
 none_low m high low = omega arith
 
 module _ (wall : ChineseWall) (entries : List Entry) where
-  pub bars_none : (bars : List Bar) → bars ≡ [] → AreBars wall entries 0 bars
+  pub bars_none : (bars : List Bar) → bars ≡ [] → AreBarsTo wall entries 0 bars
   bars_none bars empties = record {
     sound = subst (λ bs. All (IsBar wall entries) bs) (sym empties)
         (λ k d low. absurd (omega arith));
@@ -59,7 +59,7 @@ module _ (wall : ChineseWall) (entries : List Entry) where
 
     -- the next entry is no bar
     pub bars_same : (bars : List Bar) → ((x : Post) → ¬ (IsBarredAt entries (n + 1) x)) →
-        AreBars wall entries n bars → AreBars wall entries (n + 1) bars
+        AreBarsTo wall entries n bars → AreBarsTo wall entries (n + 1) bars
     bars_same bars none are = record {
       sound = are.sound;
       early = early_later bars are.early;
@@ -74,7 +74,7 @@ module _ (wall : ChineseWall) (entries : List Entry) where
 
     -- the next entry is one
     pub bars_more : (bars : List Bar) (bar : Bar) → bar.entry ≡ n + 1 → IsBar wall entries bar →
-        AreBars wall entries n bars → AreBars wall entries (n + 1) (bars ++ bar ∷ [])
+        AreBarsTo wall entries n bars → AreBarsTo wall entries (n + 1) (bars ++ bar ∷ [])
     bars_more bars bar here is are = record {
       sound = All-push (IsBar wall entries) bars bar are.sound is;
       early = All-push (λ (b : Bar). b.entry ≤ n + 1) bars bar (early_later bars are.early)

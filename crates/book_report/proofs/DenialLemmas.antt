@@ -42,7 +42,7 @@ use Rattle.book_report.specs.declared.place.Place.{Place}
 use Rattle.book_report.specs.Held.{histories_after, posts_to}
 use Rattle.book_report.specs.Walk.{IsTold}
 use Rattle.book_report.specs.Denials.{IsDeniedAt, IsFilledAt, IsDenial, HasDenial}
-use Rattle.book_report.specs.Reasons.{IsDenied, IsDeniedPost, AreDenials, HasFollowed}
+use Rattle.book_report.specs.Reasons.{IsDenied, IsDeniedPost, AreDenialsTo, HasFollowed}
 use Rattle.book_report.proofs.HistoryLemmas.{ungranted, written_stays, posts_posted}
 use Rattle.book_report.proofs.WalkLemmas.{post_at}
 use Rattle.book_report.proofs.SoundLemmas.{post_is, told_behind, told_of_post}
@@ -222,7 +222,7 @@ module _ (place : Place) (c : ℕ) (post_state : PostStateValue (Unit {0}))
 ---- the list
 
 module _ (wall : ChineseWall) (entries : List Entry) where
-  pub denials_none : (denials : List Denial) → denials ≡ [] → AreDenials wall entries 0 denials
+  pub denials_none : (denials : List Denial) → denials ≡ [] → AreDenialsTo wall entries 0 denials
   denials_none denials empties = record {
     sound = subst (λ ds. All (IsDenial wall entries) ds) (sym empties)
         (λ k d low. absurd (omega arith));
@@ -244,7 +244,7 @@ module _ (wall : ChineseWall) (entries : List Entry) where
     -- the next entry brings none
     pub denials_same : (denials : List Denial)
         → ((x : Post) → ¬ (IsDeniedPost wall entries (n + 1) x)) →
-        AreDenials wall entries n denials → AreDenials wall entries (n + 1) denials
+        AreDenialsTo wall entries n denials → AreDenialsTo wall entries (n + 1) denials
     denials_same denials none are = record {
       sound = are.sound;
       early = early_later denials are.early;
@@ -259,8 +259,8 @@ module _ (wall : ChineseWall) (entries : List Entry) where
 
     -- it brings one
     pub denials_more : (denials : List Denial) (denial : Denial) → denial.entry ≡ n + 1 + 1 →
-        IsDenial wall entries denial → AreDenials wall entries n denials →
-        AreDenials wall entries (n + 1) (denials ++ denial ∷ [])
+        IsDenial wall entries denial → AreDenialsTo wall entries n denials →
+        AreDenialsTo wall entries (n + 1) (denials ++ denial ∷ [])
     denials_more denials denial here is are = record {
       sound = All-push (IsDenial wall entries) denials denial are.sound is;
       early = All-push (λ (b : Denial). b.entry ≤ n + 1 + 1) denials denial
@@ -281,7 +281,7 @@ module _ (wall : ChineseWall) (entries : List Entry) where
 
   -- each denial that the book tells has one
   pub all_told : (denials : List Denial) → IsSound wall entries →
-      AreDenials wall entries (length entries) denials →
+      AreDenialsTo wall entries (length entries) denials →
       (n c k : ℕ) (rule : Rule) (p : ℕ) (label : Label) →
       IsDeniedAt entries n c k rule p label → HasDenial denials n
   all_told denials sound are n c k rule p label told =

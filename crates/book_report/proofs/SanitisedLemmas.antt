@@ -21,7 +21,7 @@ use Rattle.run_model.specs.Holding.{IsGrant}
 use Rattle.book_report.specs.declared.sanitised.Sanitised.{Sanitised}
 use Rattle.book_report.specs.Held.{posts_to}
 use Rattle.book_report.specs.Sanitised.{IsSanitisedAt, IsSanitised, IsBefore, Precedes}
-use Rattle.book_report.specs.Clean.{AreSanitisedTo, AreSanitised}
+use Rattle.book_report.specs.Clean.{AreSanitisedTo, AreSanitisedUpTo}
 use Rattle.book_report.proofs.SoundLemmas.{post_is}
 
 none_low : (m : ℕ) → 1 ≤ m → m < 0 + 1 → ⊥
@@ -39,7 +39,7 @@ before_next n j it (inr (same, low)) = inl (omega (arith, same))
 
 -- those of an entry have the ranks that such a list is of
 module _ (wall : ChineseWall) (entries : List Entry) where
-  pub those_none : (those : List Sanitised) → those ≡ [] → AreSanitised wall entries 0 those
+  pub those_none : (those : List Sanitised) → those ≡ [] → AreSanitisedUpTo wall entries 0 those
   those_none those empties = record {
     sound = subst (λ xs. All (IsSanitised wall entries) xs) (sym empties)
         (λ k d low. absurd (omega arith));

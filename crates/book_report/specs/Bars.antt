@@ -5,10 +5,8 @@ use Rattle.wall_rules.specs.Rules.{IsLowest, IsHeldOther}
 use Rattle.run_model.specs.declared.entry.Entry.{Entry}
 use Rattle.run_model.specs.Posts.{Post}
 use Rattle.run_model.specs.Books.{histories_before}
-use Rattle.run_state.specs.Views.{PostStateValue}
-use Rattle.audit_book.specs.Checks.{Stands}
 use Rattle.book_report.specs.declared.bar.Bar.{Bar}
-use Rattle.book_report.specs.Held.{posts_to, IsPostAt}
+use Rattle.book_report.specs.Held.{IsPostAt}
 
 -- entry n is a post that was barred
 pub record IsBarredAt (entries : List Entry) (n : ℕ) (x : Post) : Type 0 where
@@ -30,15 +28,9 @@ abbrev pub HasBar : List Bar → (n : ℕ) → Type 0
 HasBar bars n = (bar : Bar) × Contains bars bar × (bar.entry ≡ n)
 
 -- these are the bars among the first n entries, in their order
-pub record AreBars (wall : ChineseWall) (entries : List Entry) (n : ℕ) (bars : List Bar)
+pub record AreBarsTo (wall : ChineseWall) (entries : List Entry) (n : ℕ) (bars : List Bar)
     : Type 0 where
   pub sound : All (IsBar wall entries) bars
   pub early : All (λ bar. bar.entry ≤ n) bars
   pub whole : (m : ℕ) (x : Post) → m ≤ n → IsBarredAt entries m x → HasBar bars m
   pub rising : AllPairs (λ a b. a.entry < b.entry) bars
-
--- after n entries the state stands for their posts, and these are their bars
-pub record HasBars (wall : ChineseWall) (entries : List Entry) (n : ℕ)
-    (post_state : PostStateValue (Unit {0})) (bars : List Bar) : Type 0 where
-  pub stands : Stands wall post_state (posts_to entries n)
-  pub are : AreBars wall entries n bars

@@ -2,11 +2,8 @@
 use Rattle.std.specs.Prelude.{ℕ, ◌+◌, ◌<◌, List, All, AllPairs}
 use Rattle.wall_policy.specs.Policy.{ChineseWall}
 use Rattle.run_model.specs.declared.entry.Entry.{Entry}
-use Rattle.run_state.specs.Views.{PostStateValue}
-use Rattle.audit_book.specs.Checks.{Stands}
 use Rattle.book_report.specs.declared.sanitised.Sanitised.{Sanitised}
 use Rattle.book_report.specs.declared.place.Instance.{Instance}
-use Rattle.book_report.specs.Held.{posts_to}
 use Rattle.book_report.specs.Sanitised.{IsSanitisedAt, IsSanitised, HasSanitised, IsBefore, Precedes}
 
 -- these are of the entries before n, and of the ranks below j of entry n, in their order
@@ -20,16 +17,10 @@ pub record AreSanitisedTo (wall : ChineseWall) (entries : List Entry) (n j : ℕ
   pub rising : AllPairs Precedes those
 
 -- these are of the first n entries
-abbrev pub AreSanitised : ChineseWall → List Entry → (n : ℕ) → List Sanitised → Type 0
-AreSanitised wall entries n those = AreSanitisedTo wall entries (n + 1) 0 those
+abbrev pub AreSanitisedUpTo : ChineseWall → List Entry → (n : ℕ) → List Sanitised → Type 0
+AreSanitisedUpTo wall entries n those = AreSanitisedTo wall entries (n + 1) 0 those
 
 -- these are of the entries before that which filled the instance, and of its ranks below j
 abbrev pub AreOfRanks : Instance → (j : ℕ) → List Sanitised → Type 0
 AreOfRanks instance j those = AreSanitisedTo instance.place.policy.now
     instance.place.book.now.list (instance.place.at + 1) j those
-
--- after n entries the state stands for their posts, and these are of them
-pub record HasSanitisedTo (wall : ChineseWall) (entries : List Entry) (n : ℕ)
-    (post_state : PostStateValue (Unit {0})) (those : List Sanitised) : Type 0 where
-  pub stands : Stands wall post_state (posts_to entries n)
-  pub are : AreSanitised wall entries n those

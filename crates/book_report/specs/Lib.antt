@@ -18,3 +18,7 @@ pub mod Waits
 pub mod Turns
 -- how the reason of a denial is found
 pub mod Reasons
+-- how far one walk has come by all of this
+pub mod Told
+-- what a report has
+pub mod Report

@@ -17,7 +17,6 @@ use Rattle.run_model.specs.declared.entry.Entry.TheVariants.{Posted, Settled}
 use Rattle.run_model.specs.Posts.{Post, outcome}
 use Rattle.run_state.specs.declared.entered.Entered.{Entered}
 use Rattle.run_state.specs.Views.{PostStateValue}
-use Rattle.audit_book.specs.Checks.{Stands}
 use Rattle.book_report.specs.declared.denial.Denial.{Denial}
 use Rattle.book_report.specs.declared.denial.Reason.{Reason}
 use Rattle.book_report.specs.declared.place.Place.{Place}
@@ -97,18 +96,12 @@ pub record IsDeniedPost (wall : ChineseWall) (entries : List Entry) (n : ℕ) (x
   pub denied : outcome wall x (posts_to entries (n - 1)) ≡ Some (Denied rule process label)
 
 -- these are the denials that the posts among the first n entries brought, in their order
-pub record AreDenials (wall : ChineseWall) (entries : List Entry) (n : ℕ) (denials : List Denial)
+pub record AreDenialsTo (wall : ChineseWall) (entries : List Entry) (n : ℕ) (denials : List Denial)
     : Type 0 where
   pub sound : All (IsDenial wall entries) denials
   pub early : All (λ denial. denial.entry ≤ n + 1) denials
   pub whole : (m : ℕ) (x : Post) → m ≤ n → IsDeniedPost wall entries m x → HasDenial denials (m + 1)
   pub rising : AllPairs (λ a b. a.entry < b.entry) denials
-
--- after n entries the state stands for their posts, and these are their denials
-pub record HasDenials (wall : ChineseWall) (entries : List Entry) (n : ℕ)
-    (post_state : PostStateValue (Unit {0})) (denials : List Denial) : Type 0 where
-  pub stands : Stands wall post_state (posts_to entries n)
-  pub are : AreDenials wall entries n denials
 
 -- a post on c stands at the place, the state stands for the posts up to it, and this was told of it
 pub record HasFollowed (place : Place) (c : ℕ) (post_state : PostStateValue (Unit {0}))

@@ -42,23 +42,3 @@ pub(crate) fn enter(
         },
     }
 }
-
-/// Enters the post that stands here, whatever it fills.
-pub(crate) fn pass_on(
-    alloc: Global,
-    place: &Place<'_>,
-    post_state: &mut PostState<()>,
-    posting: &Posting<'_>,
-) -> Result<(), NoMemory>
-    requires place { IsPlace place.now }
-    requires here { IsHere place.now (post_in posting.now) }
-    requires stands { StandsBefore place.now post_state.old }
-    ensures { OnOk result (StandsBehind place.now post_state.new) }
-{
-    let entered = match enter(alloc, place, post_state, posting) {
-        Ok(entered) => entered,
-        Err(refused) => return Err(refused),
-    };
-    drop(entered);
-    Ok(())
-}

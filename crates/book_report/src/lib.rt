@@ -1,8 +1,8 @@
-//! What a book tells: who came to hold what, by which entry and how.
+//! What a book tells: who came to hold what, by which entry and how; whose results were sanitised;
+//! which instances wait; which posts were barred, and which instances denied.
 //!
-//! [`held`] goes once through a sound book, and gives for each process and each dataset that it
-//! holds at the end the entry after which it first did, and how that came. What holding means is
-//! said by the histories that a book gives (`run_model`).
+//! [`Report::of`] goes once through a sound book, and has all of it. What holding means is said by the
+//! histories that a book gives (`run_model`).
 #![tactic(auto)]
 
 mod bar;
@@ -13,11 +13,12 @@ mod denied;
 mod enter;
 mod grant;
 mod known;
-mod last;
 mod place;
 mod reason;
+mod report;
 mod row;
 mod sanitised;
+mod told;
 mod turns;
 mod wait;
 mod waits;
@@ -25,13 +26,8 @@ mod walk;
 
 pub use audit_book::{Book, BookFault, NoMemory};
 pub use bar::Bar;
-pub use bars::barred_posts;
-pub use clean::sanitised_results;
 pub use denial::{Denial, Reason, Source};
-pub use denied::denials;
-pub use last::state_at_last;
+pub use report::Report;
 pub use row::{Row, Way};
 pub use sanitised::Sanitised;
 pub use wait::Wait;
-pub use waits::waiting_members;
-pub use walk::held;

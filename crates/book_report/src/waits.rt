@@ -1,16 +1,10 @@
 //! Goes through the communicators for the instances that wait for members.
-ghost use Rattle.std.specs.Prelude.{◌≡◌, ℕ, ◌<◌, ◌+◌, length, slice_get, All, AllPairs};
-ghost use Rattle.std.specs.Prelude.{IfOk, IfErr, OnOk};
-ghost use Rattle.run_model.specs.Books.{IsSound};
-ghost use Rattle.audit_book.specs.Checks.{IsFaultOf};
-ghost use Rattle.book_report.specs.Waits.{IsWaitingAt, IsWait, HasWait, Precedes};
+ghost use Rattle.std.specs.Prelude.{◌≡◌, ◌<◌, ◌+◌, length, slice_get, IfOk, OnOk};
 ghost use Rattle.book_report.specs.Turns.{IsMeeting, IsBegun, AreWaitsTo, AreWaitsOn};
 ghost use Rattle.book_report.specs.Turns.{AreWaitsBelow, IsAtEnd};
 
-use crate::last::state_at_last;
 use crate::turns::{first_turn, lacks_one, most, turns_of_all};
 use crate::wait::Wait;
-use audit_book::{BookFault, check_book};
 use mpi_group::Group;
 use run_state::{Book, PostState};
 use std::alloc::Global;
@@ -138,8 +132,8 @@ fn add_comm(end: &AtEnd<'_>, waits: &mut Vec<Wait>, comm: u32) -> Result<(), NoM
     add_instances(&meeting, waits)
 }
 
-// Those of all communicators.
-fn waits_of(alloc: Global, end: &AtEnd<'_>) -> Result<Vec<Wait>, NoMemory>
+/// Those of all communicators.
+pub(crate) fn waits_of(alloc: Global, end: &AtEnd<'_>) -> Result<Vec<Wait>, NoMemory>
     requires { IsAtEnd end.now }
     ensures { IfOk result (λ waits.
         AreWaitsBelow end.now (length end.now.post_state.now.comms) waits.items) }
@@ -149,35 +143,4 @@ fn waits_of(alloc: Global, end: &AtEnd<'_>) -> Result<Vec<Wait>, NoMemory>
         add_comm(end, &mut waits, comm)?;
     }
     Ok(waits)
-}
-
-/// The members of the instances that wait at the end of the book, by communicator, instance and
-/// rank: each with the entry by which it has posted for the instance, or none where it is missing.
-///
-/// The book is checked first, as by [`check_book`], and where it is not sound its fault is
-/// answered. The entries are searched once for each member of each communicator.
-pub fn waiting_members(alloc: Global, policy: &Policy, book: &Book) -> Result<Vec<Wait>, BookFault>
-    ensures sound { OnOk result (IsSound policy.now book.now.list) }
-    ensures waits { IfOk result (λ waits. All (IsWait policy.now book.now.list) waits.items) }
-    ensures all { IfOk result (λ waits. (c k j p : ℕ) →
-        IsWaitingAt policy.now book.now.list c k j p → HasWait waits.items c k j) }
-    ensures once { IfOk result (λ waits. AllPairs Precedes waits.items) }
-    ensures fault { IfErr result (IsFaultOf policy.now book.now.list) }
-{
-    check_book(alloc, policy, book)?;
-    let post_state = match state_at_last(alloc, policy, book) {
-        Ok(post_state) => post_state,
-        Err(refused) => return Err(BookFault::from(refused)),
-    };
-    let end = AtEnd {
-        policy,
-        book,
-        post_state: &post_state,
-    };
-    let waits = waits_of(alloc, &end);
-    drop(post_state);
-    match waits {
-        Ok(waits) => Ok(waits),
-        Err(refused) => Err(BookFault::from(refused)),
-    }
 }

@@ -9,7 +9,7 @@ use Rattle.book_report.specs.declared.wait.Wait.{Wait}
 use Rattle.book_report.specs.declared.bar.Bar.{Bar}
 use Rattle.book_report.specs.declared.denial.Denial.{Denial}
 use Rattle.book_report.specs.Held.{posts_to}
-use Rattle.report_text.specs.Report.{AreRows, AreSanitised, AreWaits, AreBars, AreDenials}
+use Rattle.book_report.specs.Report.{AreRows, AreSanitised, AreWaits, AreBars, AreDenials}
 use Rattle.report_page.specs.Tables.{rows_table, comms_table, instances_table}
 use Rattle.report_page.specs.Tables.{sanitised_table, waits_table, bars_table, denials_table}
 use Rattle.report_page.specs.Picture.{picture_text}

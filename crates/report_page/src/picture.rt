@@ -9,9 +9,8 @@ ghost use Rattle.report_page.specs.Picture.{tracks_text, kept_line, kept_text, c
 ghost use Rattle.report_page.specs.Picture.{came_text, key_text, path_front, picture_text};
 
 use crate::escape::put_escaped;
-use book_report::{Denial, Row};
+use book_report::{Denial, Report, Row};
 use coll_text::{put, put_behind, put_decimal};
-use report_text::Findings;
 use std::alloc::AllocError;
 use wall_labels::ProcessId;
 use wall_policy::Policy;
@@ -181,7 +180,7 @@ pub(crate) fn put_picture(
     text: &mut Vec<u8>,
     policy: &Policy,
     entries: u64,
-    found: &Findings,
+    found: &Report,
 ) -> Result<(), AllocError>
     requires { entries < 2 ^ 62 }
     ensures { OnOk result (text.new.items ≡ text.old.items

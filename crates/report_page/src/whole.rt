@@ -1,8 +1,9 @@
 //! The page of a report.
-ghost use Rattle.std.specs.Prelude.{◌≡◌, ◌++◌, IfOk, IfErr, OnOk};
+ghost use Rattle.std.specs.Prelude.{◌≡◌, ◌++◌, length, IfOk, IfErr, OnOk};
 ghost use Rattle.run_model.specs.Books.{IsSound};
 ghost use Rattle.run_model.specs.PostLaws.{KeepsTheWall};
-ghost use Rattle.audit_book.specs.Checks.{IsFaultOf};
+ghost use Rattle.audit_book.specs.Checks.{IsFaultOf, Stands};
+ghost use Rattle.book_report.specs.Held.{posts_to};
 ghost use Rattle.report_page.specs.Page.{tables_text, page_text, IsPage};
 
 use crate::bars::put_bars;
@@ -13,9 +14,8 @@ use crate::picture::put_picture;
 use crate::rows::put_rows;
 use crate::sanitised::put_sanitised;
 use crate::waits::put_waits;
-use book_report::{Book, BookFault};
+use book_report::{Book, BookFault, Report};
 use coll_text::put;
-use report_text::Findings;
 use std::alloc::Global;
 use wall_labels::NoMemory;
 use wall_policy::Policy;
@@ -52,15 +52,17 @@ fn put_tables(
     text: &mut Vec<u8>,
     policy: &Policy,
     book: &Book,
-    found: &Findings,
+    found: &Report,
 ) -> Result<(), NoMemory>
-    requires { IsSound policy.now book.now.list }
+    requires sound { IsSound policy.now book.now.list }
+    requires at_end { Stands policy.now found.now.at_end
+        (posts_to book.now.list (length book.now.list)) }
     ensures { OnOk result (text.new.items ≡ text.old.items ++ tables_text policy.now book.now.list
         found.now.rows.items found.now.sanitised.items found.now.waits.items
         found.now.bars.items found.now.denials.items) }
 {
     put_rows(text, policy, book, &found.rows)?;
-    put_comms_of(text, policy, book)?;
+    put_comms_of(text, policy, &found.at_end)?;
     put_instances(text, policy, book)?;
     put_sanitised(text, policy, book, &found.sanitised)?;
     put_waits(text, policy, book, &found.waits)?;
@@ -69,13 +71,10 @@ fn put_tables(
     Ok(())
 }
 
-fn page_of(
-    alloc: Global,
-    policy: &Policy,
-    book: &Book,
-    found: &Findings,
-) -> Result<Vec<u8>, NoMemory>
-    requires { IsSound policy.now book.now.list }
+fn page_of(alloc: Global, policy: &Policy, book: &Book, found: &Report) -> Result<Vec<u8>, NoMemory>
+    requires sound { IsSound policy.now book.now.list }
+    requires at_end { Stands policy.now found.now.at_end
+        (posts_to book.now.list (length book.now.list)) }
     ensures { IfOk result (λ text. text.items ≡ page_text policy.now book.now.list
         found.now.rows.items found.now.sanitised.items found.now.waits.items
         found.now.bars.items found.now.denials.items) }
@@ -108,9 +107,14 @@ pub fn report_page(alloc: Global, policy: &Policy, book: &Book) -> Result<Vec<u8
     ensures page { IfOk result (λ text. IsPage policy.now book.now.list text.items) }
     ensures fault { IfErr result (IsFaultOf policy.now book.now.list) }
 {
-    let found = Findings::of(alloc, policy, book)?;
-    match page_of(alloc, policy, book, &found) {
-        Ok(text) => Ok(text),
+    let found = match Report::of(alloc, policy, book) {
+        Ok(found) => found,
+        Err(fault) => return Err(fault),
+    };
+    let page = page_of(alloc, policy, book, &found);
+    drop(found);
+    match page {
+        Ok(page) => Ok(page),
         Err(refused) => Err(BookFault::from(refused)),
     }
 }

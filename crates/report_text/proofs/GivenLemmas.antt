@@ -8,10 +8,9 @@ use Rattle.std.proofs.lemmas.List.Elements.{All-contains}
 use Rattle.std.proofs.Math.Seq.{take-length}
 use Rattle.wall_labels.specs.declared.ids.TheConstants.{DATASET_LIMIT}
 use Rattle.wall_policy.specs.Policy.{ChineseWall, HasAtFirst, home_of, home_if_any, held_of}
-use Rattle.wall_rules.specs.Histories.{opening}
 use Rattle.wall_rules.proofs.WallRulesLemmas.{opening-Decides}
 use Rattle.run_model.specs.declared.entry.Entry.{Entry}
-use Rattle.run_model.specs.Posts.{Post, histories}
+use Rattle.run_model.specs.Posts.{histories}
 use Rattle.run_model.specs.PostLaws.{HoldingIsHistory}
 use Rattle.run_model.specs.Books.{posts_in, IsSound}
 use Rattle.run_model.specs.Chains.{Link, IsChain, IsPolicyAfter, GrewFrom}
@@ -21,7 +20,7 @@ use Rattle.book_report.specs.declared.row.Row.{Row}
 use Rattle.book_report.specs.declared.row.Way.{Way}
 use Rattle.book_report.specs.declared.row.Way.TheVariants.{AtFirst, OwnPost, Delivered}
 use Rattle.book_report.specs.Held.{histories_after, posts_to, CameBy, IsRow}
-use Rattle.report_text.specs.Report.{AreRows}
+use Rattle.book_report.specs.Report.{AreRows}
 use Rattle.report_text.specs.GivenOnce.{Gave, AreAllRows, NoneGave, OneGave}
 
 -- ---- what is held entry by entry

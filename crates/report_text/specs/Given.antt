@@ -9,7 +9,7 @@ use Rattle.book_report.specs.declared.row.Way.{Way}
 use Rattle.book_report.specs.declared.row.Way.TheVariants.{AtFirst, OwnPost, Delivered}
 use Rattle.report_text.specs.Words.{folded}
 use Rattle.report_text.specs.Rows.{held_text, way_text}
-use Rattle.report_text.specs.Report.{AreRows}
+use Rattle.book_report.specs.Report.{AreRows}
 
 -- the run, the entry, and who holds what since
 abbrev pub since_text : ChineseWall → (run : ℕ) → Row → List ℕ

@@ -7,7 +7,7 @@ use Rattle.run_model.specs.Chains.{Link, IsChain}
 use Rattle.run_model.specs.Years.{BeginsWithNothing}
 use Rattle.book_report.specs.declared.row.Row.{Row}
 use Rattle.book_report.specs.declared.row.Way.TheVariants.{AtFirst}
-use Rattle.report_text.specs.Report.{AreRows}
+use Rattle.book_report.specs.Report.{AreRows}
 
 -- One of the rows of a book has a line of what the run gave: it is of this pair, which was not
 -- there at first. (Of each pair there is one row.)

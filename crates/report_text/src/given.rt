@@ -7,7 +7,7 @@ ghost use Rattle.report_text.specs.Given.{since_text, gain_text, gain_line, gain
 
 use crate::lines::{COLUMNS, put_folded};
 use crate::rows::{put_held, put_way};
-use book_report::{Book, BookFault, Row, Way, held};
+use book_report::{Book, BookFault, Report, Row, Way};
 use coll_text::{put, put_decimal};
 use std::alloc::{AllocError, Global};
 use wall_labels::NoMemory;
@@ -93,9 +93,14 @@ pub fn given_text(
     ensures given { IfOk result (λ text. IsGiven policy.now book.now.list run text.items) }
     ensures fault { IfErr result (IsFaultOf policy.now book.now.list) }
 {
-    let rows = held(alloc, policy, book)?;
+    let report = match Report::of(alloc, policy, book) {
+        Ok(report) => report,
+        Err(fault) => return Err(fault),
+    };
     let mut text = Vec::new(alloc);
-    match put_gains(&mut text, policy, book, run, &rows) {
+    let put = put_gains(&mut text, policy, book, run, &report.rows);
+    drop(report);
+    match put {
         Ok(()) => Ok(text),
         Err(refused) => Err(BookFault::from(NoMemory::from(refused))),
     }

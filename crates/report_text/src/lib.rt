@@ -8,7 +8,6 @@
 
 mod bars;
 mod denials;
-mod findings;
 mod given;
 mod instances;
 pub mod laws;
@@ -20,9 +19,8 @@ mod waits;
 mod whole;
 mod words;
 
-pub use book_report::{Book, BookFault};
+pub use book_report::{Book, BookFault, Report};
 pub use denials::put_reason;
-pub use findings::Findings;
 pub use given::given_text;
 pub use instances::{Filled, put_outcome};
 pub use members::Member;

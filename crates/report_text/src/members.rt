@@ -1,19 +1,15 @@
 //! The lines of the members of communicators.
-ghost use Rattle.std.specs.Prelude.{◌≡◌, ◌++◌, length, OnOk};
-ghost use Rattle.run_model.specs.Posts.{comms};
-ghost use Rattle.run_model.specs.Books.{IsSound};
-ghost use Rattle.book_report.specs.Held.{posts_to};
+ghost use Rattle.std.specs.Prelude.{◌≡◌, ◌++◌, OnOk};
 ghost use Rattle.report_text.specs.Members.{rank_text, member_line, member_lines};
 ghost use Rattle.report_text.specs.Members.{comm_lines, comms_text};
 ghost use Rattle.report_text.specs.Words.{numbered};
 
 use crate::words::put_process;
-use book_report::{Book, state_at_last};
 use coll_text::{put, put_decimal};
 use mpi_group::Group;
 use run_state::PostState;
 use std::alloc::AllocError;
-use wall_labels::{NoMemory, ProcessId};
+use wall_labels::ProcessId;
 use wall_policy::Policy;
 
 fn put_rank(text: &mut Vec<u8>, comm: u32, rank: u32) -> Result<(), AllocError>
@@ -83,16 +79,15 @@ fn put_comms(
     Ok(())
 }
 
-/// The members of all communicators that are there at the end of a sound book.
-pub(crate) fn put_comms_of(text: &mut Vec<u8>, policy: &Policy, book: &Book) -> Result<(), NoMemory>
-    requires { IsSound policy.now book.now.list }
-    ensures { OnOk result (text.new.items ≡ text.old.items ++ comms_text policy.now
-        (comms policy.now (posts_to book.now.list (length book.now.list)))) }
+/// The members of all communicators of a state, with their heading.
+pub(crate) fn put_comms_of(
+    text: &mut Vec<u8>,
+    policy: &Policy,
+    post_state: &PostState<()>,
+) -> Result<(), AllocError>
+    ensures { OnOk result
+        (text.new.items ≡ text.old.items ++ comms_text policy.now post_state.now.comms) }
 {
     put(text, "\nwho is in which communicator:\n")?;
-    let post_state = state_at_last(*text.allocator(), policy, book)?;
-    let done = put_comms(text, policy, &post_state);
-    drop(post_state);
-    done?;
-    Ok(())
+    put_comms(text, policy, post_state)
 }

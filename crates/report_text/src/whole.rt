@@ -3,7 +3,7 @@ ghost use Rattle.std.specs.Prelude.{◌≡◌, ◌++◌, length, IfOk, IfErr, On
 ghost use Rattle.run_model.specs.Posts.{comms};
 ghost use Rattle.run_model.specs.Books.{IsSound};
 ghost use Rattle.run_model.specs.PostLaws.{KeepsTheWall};
-ghost use Rattle.audit_book.specs.Checks.{IsFaultOf};
+ghost use Rattle.audit_book.specs.Checks.{IsFaultOf, Stands};
 ghost use Rattle.book_report.specs.Held.{posts_to};
 ghost use Rattle.report_text.specs.Rows.{rows_text};
 ghost use Rattle.report_text.specs.Members.{comms_text};
@@ -15,25 +15,21 @@ ghost use Rattle.report_text.specs.Report.{IsReport};
 
 use crate::bars::put_bars;
 use crate::denials::put_denials;
-use crate::findings::Findings;
 use crate::instances::put_instances;
 use crate::members::put_comms_of;
 use crate::rows::put_rows;
 use crate::sanitised::put_sanitised;
 use crate::waits::put_waits;
-use book_report::{Book, BookFault};
+use book_report::{Book, BookFault, Report};
 use std::alloc::Global;
 use wall_labels::NoMemory;
 use wall_policy::Policy;
 
 // The lines of what was found, and what a sound book tells besides.
-fn text_of(
-    alloc: Global,
-    policy: &Policy,
-    book: &Book,
-    found: &Findings,
-) -> Result<Vec<u8>, NoMemory>
-    requires { IsSound policy.now book.now.list }
+fn text_of(alloc: Global, policy: &Policy, book: &Book, found: &Report) -> Result<Vec<u8>, NoMemory>
+    requires sound { IsSound policy.now book.now.list }
+    requires at_end { Stands policy.now found.now.at_end
+        (posts_to book.now.list (length book.now.list)) }
     ensures { IfOk result (λ text. text.items
         ≡ rows_text policy.now book.now.list found.now.rows.items
         ++ comms_text policy.now
@@ -46,7 +42,7 @@ fn text_of(
 {
     let mut text = Vec::new(alloc);
     put_rows(&mut text, policy, book, &found.rows)?;
-    put_comms_of(&mut text, policy, book)?;
+    put_comms_of(&mut text, policy, &found.at_end)?;
     put_instances(&mut text, policy, book)?;
     put_sanitised(&mut text, policy, book, &found.sanitised)?;
     put_waits(&mut text, policy, book, &found.waits)?;
@@ -69,8 +65,13 @@ pub fn report_text(alloc: Global, policy: &Policy, book: &Book) -> Result<Vec<u8
     ensures report { IfOk result (λ text. IsReport policy.now book.now.list text.items) }
     ensures fault { IfErr result (IsFaultOf policy.now book.now.list) }
 {
-    let found = Findings::of(alloc, policy, book)?;
-    match text_of(alloc, policy, book, &found) {
+    let found = match Report::of(alloc, policy, book) {
+        Ok(found) => found,
+        Err(fault) => return Err(fault),
+    };
+    let text = text_of(alloc, policy, book, &found);
+    drop(found);
+    match text {
         Ok(text) => Ok(text),
         Err(refused) => Err(BookFault::from(refused)),
     }

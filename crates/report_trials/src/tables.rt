@@ -8,8 +8,7 @@ use crate::stored::{
 use crate::walls::{FOUR_BANKS, policy};
 use audit_book::read_book;
 use book_report::{
-    Bar, Book, BookFault, Denial, Reason, Row, Sanitised, Source, Wait, Way, barred_posts, denials,
-    held, sanitised_results, waiting_members,
+    Bar, Book, BookFault, Denial, Reason, Report, Row, Sanitised, Source, Wait, Way,
 };
 use std::process::Abort;
 use std::test::Fail;
@@ -57,6 +56,14 @@ fn book(rt: &(impl AllocGlobal + Abort), policy: &Policy, text: &str) -> Book {
     }
 }
 
+// What a sound book tells.
+fn report(rt: &(impl AllocGlobal + Abort), policy: &Policy, book: &Book) -> Report {
+    match Report::of(rt.alloc(), policy, book) {
+        Ok(report) => report,
+        Err(fault) => panic!(rt; "{fault}"),
+    }
+}
+
 // Who holds what, which posts were barred, and which instances denied.
 fn tells(
     rt: &(impl AllocGlobal + Abort),
@@ -67,18 +74,11 @@ fn tells(
 ) -> Result<(), Fail> {
     let policy = policy(rt, BANKS_AND_OIL);
     let book = book(rt, &policy, text);
-    match held(rt.alloc(), &policy, &book) {
-        Ok(told) => assert_eq!(rt; told.as_slice(), rows, "in {text:?}"),
-        Err(fault) => panic!(rt; "{fault}"),
-    }
-    match barred_posts(rt.alloc(), &policy, &book) {
-        Ok(told) => assert_eq!(rt; told.as_slice(), bars, "in {text:?}"),
-        Err(fault) => panic!(rt; "{fault}"),
-    }
-    match denials(rt.alloc(), &policy, &book) {
-        Ok(told) => assert_eq!(rt; told.as_slice(), denied, "in {text:?}"),
-        Err(fault) => panic!(rt; "{fault}"),
-    }
+    let found = report(rt, &policy, &book);
+    assert_eq!(rt; found.rows.as_slice(), rows, "in {text:?}");
+    assert_eq!(rt; found.bars.as_slice(), bars, "in {text:?}");
+    assert_eq!(rt; found.denials.as_slice(), denied, "in {text:?}");
+    drop(found);
     drop(book);
     drop(policy);
     Ok(())
@@ -246,10 +246,9 @@ fn sums_of_four_banks(rt: HostRuntime) -> Result<(), Fail> {
     ];
     let policy = policy(&rt, FOUR_BANKS);
     let book = book(&rt, &policy, OF_SUMS);
-    match sanitised_results(rt.alloc(), &policy, &book) {
-        Ok(told) => assert_eq!(&rt; told.as_slice(), those.as_slice()),
-        Err(fault) => panic!(&rt; "{fault}"),
-    }
+    let found = report(&rt, &policy, &book);
+    assert_eq!(&rt; found.sanitised.as_slice(), those.as_slice());
+    drop(found);
     drop(book);
     drop(policy);
     Ok(())
@@ -284,10 +283,9 @@ fn a_run_that_stands(rt: HostRuntime) -> Result<(), Fail> {
     ];
     let policy = policy(&rt, BANKS_AND_OIL);
     let book = book(&rt, &policy, STANDING);
-    match waiting_members(rt.alloc(), &policy, &book) {
-        Ok(told) => assert_eq!(&rt; told.as_slice(), those.as_slice()),
-        Err(fault) => panic!(&rt; "{fault}"),
-    }
+    let found = report(&rt, &policy, &book);
+    assert_eq!(&rt; found.waits.as_slice(), those.as_slice());
+    drop(found);
     drop(book);
     drop(policy);
     Ok(())
@@ -298,12 +296,10 @@ fn a_run_that_stands(rt: HostRuntime) -> Result<(), Fail> {
 fn an_unsound_book(rt: HostRuntime) -> Result<(), Fail> {
     let policy = policy(&rt, BANKS_AND_OIL);
     let book = book(&rt, &policy, UNSOUND);
-    let fault = Some(BookFault::BadEntry(5));
-    assert_eq!(rt; held(rt.alloc(), &policy, &book).err(), fault);
-    assert_eq!(rt; sanitised_results(rt.alloc(), &policy, &book).err(), fault);
-    assert_eq!(rt; waiting_members(rt.alloc(), &policy, &book).err(), fault);
-    assert_eq!(rt; barred_posts(rt.alloc(), &policy, &book).err(), fault);
-    assert_eq!(rt; denials(rt.alloc(), &policy, &book).err(), fault);
+    match Report::of(rt.alloc(), &policy, &book) {
+        Ok(_) => panic!(&rt; "a report on a book that is not sound"),
+        Err(fault) => assert_eq!(&rt; fault, BookFault::BadEntry(5)),
+    }
     drop(book);
     drop(policy);
     Ok(())

@@ -2,7 +2,7 @@ use Rattle.std.proofs.Common.{◌+◌, ap, ◌∙◌, sym, subst, refl}
 use Rattle.run_model.specs.declared.outcome.Outcome.{Outcome}
 use Rattle.wall_rules.specs.Histories.{Accesses, has}
 use Rattle.run_state.specs.declared.entered.Entered.TheVariants.{Settled}
-use Rattle.book_report.specs.Reasons.{AreDenials, IsDenied}
+use Rattle.book_report.specs.Reasons.{AreDenialsTo, IsDenied}
 use Rattle.book_report.specs.declared.denial.Denial.{Denial}
 use Rattle.book_report.proofs.KnownLemmas.{ok_then}
 use Rattle.book_report.proofs.DenialLemmas.{none_waiting, is_denied, none_other, denials_same}
@@ -71,7 +71,7 @@ returns-in-Denied c = ok_then c.push_denial.result _ _
       process = c.in-Denied.process;
       reason = c.reason-reason.result;
     } in
-    subst (λ ds. AreDenials place.policy.now place.book.now.list (place.at + 1) ds) (sym pushed)
+    subst (λ ds. AreDenialsTo place.policy.now place.book.now.list (place.at + 1) ds) (sym pushed)
     (denials_more place.policy.now place.book.now.list place.at c.args.denials.now.items denial
     refl c.reason-reason.ensures are))
     c.push_denial.ensures

@@ -1,4 +1,5 @@
 use Rattle.std.proofs.Common.{[], ◌∷◌, ◌++◌, List, length, ap, ◌∙◌}
+use Rattle.run_model.specs.Comms.{Comm}
 use Rattle.run_model.specs.Posts.{comms}
 use Rattle.book_report.specs.declared.row.Row.{Row}
 use Rattle.book_report.specs.declared.sanitised.Sanitised.{Sanitised}
@@ -8,6 +9,7 @@ use Rattle.book_report.specs.declared.denial.Denial.{Denial}
 use Rattle.book_report.specs.Held.{posts_to}
 use Rattle.report_page.specs.Tables.{rows_table, comms_table, instances_table}
 use Rattle.report_page.specs.Tables.{sanitised_table, waits_table, bars_table, denials_table}
+use Rattle.report_text.proofs.ReportTextLemmas.{comms_are}
 use Rattle.report_page.proofs.PieceLemmas.{◌&◌, all_written}
 use Rattle.report_page.proofs.whole.put_tables.Goals as goal
 
@@ -16,6 +18,9 @@ returns c =
     let wall = c.args.policy.now in
     let entries = c.args.book.now.list in
     let found = c.args.found.now in
+    let there = c.in_ok-put_comms_of.ensures
+    ∙ ap (λ (cs : List Comm). c.put_rows.new.text.items ++ comms_table wall cs)
+    (comms_are wall found.at_end (posts_to entries (length entries)) c.requires.at_end) in
     let rows = c.in_ok-put_rows.ensures
     ∙ ap (λ (rs : List Row). c.args.text.now.items ++ rows_table wall entries rs)
     c.deref.ensures.value in
@@ -44,5 +49,5 @@ returns c =
     ∷ (bars_table wall found.bars.items, c.put_bars.new.text.items)
     ∷ (denials_table wall found.denials.items, c.put_denials.new.text.items) ∷ [])
     rows
-    (c.in_ok-put_comms_of.ensures & c.in_ok-put_instances.ensures & sanitised & waits & bars
+    (there & c.in_ok-put_instances.ensures & sanitised & waits & bars
     & denials & tt)
