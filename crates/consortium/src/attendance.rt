@@ -196,12 +196,14 @@ impl Attendance {
     pub(crate) fn go<R: Wait>(&self, rt: &R, company: &Company, calls: u64, why: Why) -> bool {
         let mut guard = self.attending.lock(rt);
         let attending = &mut *guard;
+        // (So it is where its pipes could not be opened again.)
+        let was_gone = matches!(&attending.presence, Presence::Gone(_));
         attending.presence = Presence::Gone(why);
         attending.calls = calls;
         attending.is_over = attending.word.is_some();
         let is_told = attending.is_over;
         drop(guard);
-        let is_last = company.lose(rt);
+        let is_last = !was_gone && company.lose(rt);
         !is_told && !is_last
     }
 
