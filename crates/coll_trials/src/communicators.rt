@@ -11,17 +11,31 @@ use std::alloc::{AllocError, Global};
 use std::process::Abort;
 use wall_labels::ProcessId;
 
+fn expect(rt: &impl Abort, found: Result<Made, CommFault>, wanted: Result<Made, CommFault>) {
+    assert_eq!(rt; found, wanted);
+}
+
 // So many communicators were made, of which this is the first.
 fn expect_made(rt: &impl Abort, found: Result<Made, CommFault>, first: u32, number: u32) {
-    assert_eq!(rt; found, Ok(Made { first, number }));
+    expect(rt, found, Ok(Made { first, number }));
 }
 
 fn expect_fault(rt: &impl Abort, found: Result<Made, CommFault>, fault: CommFault) {
-    assert_eq!(rt; found, Err(fault));
+    expect(rt, found, Err(fault));
+}
+
+fn asking(colour: Option<i32>, key: i32) -> Ask {
+    Ask { colour, key }
 }
 
 fn asks(colour: Option<i32>, keys: [i32; 4]) -> [Ask; 4] {
-    keys.map(|key| Ask { colour, key })
+    let [first, second, third, last] = keys;
+    [
+        asking(colour, first),
+        asking(colour, second),
+        asking(colour, third),
+        asking(colour, last),
+    ]
 }
 
 /// A table whose world has these processes.
@@ -92,12 +106,11 @@ fn constructors(rt: HostRuntime) {
 #[test]
 fn two_colours(rt: HostRuntime) {
     let mut table = opened(&rt, rt.alloc(), &[0, 1, 2, 3]);
-    let ask = |colour, key| Ask { colour, key };
     let stated = [
-        ask(Some(2), 0),
-        ask(None, 0),
-        ask(Some(0), 5),
-        ask(Some(2), 0),
+        asking(Some(2), 0),
+        asking(None, 0),
+        asking(Some(0), 5),
+        asking(Some(2), 0),
     ];
     expect_world(&rt, &table, 4);
     expect_made(&rt, table.split(0, &stated), 1, 2);
@@ -133,6 +146,14 @@ const COMPARED: &[(u32, Result<CommCompare, CommFault>)] = &[
     (4, Err(CommFault::NoSuchComm)),
 ];
 
+fn expect_info(
+    rt: &impl Abort,
+    found: Result<CommInfo, CommFault>,
+    wanted: Result<CommInfo, CommFault>,
+) {
+    assert_eq!(rt; found, wanted);
+}
+
 #[test]
 fn looks(rt: HostRuntime) {
     let table = example(&rt, rt.alloc());
@@ -141,9 +162,9 @@ fn looks(rt: HostRuntime) {
     }
     let one = ProcessId::new(1).expect(&rt, "a process");
     let two = ProcessId::new(2).expect(&rt, "a process");
-    assert_eq!(rt; table.info(one, 3), Err(CommFault::NotMember));
-    assert_eq!(rt; table.info(two, 3), Ok(CommInfo { size: 2, rank: 1 }));
-    assert_eq!(rt; table.info(two, 4), Err(CommFault::NoSuchComm));
+    expect_info(&rt, table.info(one, 3), Err(CommFault::NotMember));
+    expect_info(&rt, table.info(two, 3), Ok(CommInfo { size: 2, rank: 1 }));
+    expect_info(&rt, table.info(two, 4), Err(CommFault::NoSuchComm));
     drop(table);
 }
 

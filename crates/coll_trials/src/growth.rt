@@ -133,7 +133,9 @@ fn fault_of(
     text: &str,
 ) -> Option<(&'static str, u32)> {
     let new = wall(rt, alloc, text);
-    match grown_from(alloc, old, &new) {
+    let grown = grown_from(alloc, old, &new);
+    drop(new);
+    match grown {
         Ok(policy) => {
             drop(policy);
             None

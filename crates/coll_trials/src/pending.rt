@@ -280,7 +280,10 @@ fn room_of_counts(roll: Roll) -> usize {
     drop(stated);
     match sig {
         Signature::ReduceScatter { counts, .. } => counts.into_vec().capacity(),
-        _ => 0,
+        other => {
+            drop(other);
+            0
+        }
     }
 }
 

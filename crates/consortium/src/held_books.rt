@@ -290,7 +290,9 @@ fn hold_asked<E: Sink>(
         Ok(command) => command,
         Err(fault) => return unasked(err, fault),
     };
-    match held.hold_for(alloc, rt, &command) {
+    let asked = held.hold_for(alloc, rt, &command);
+    drop(command);
+    match asked {
         Ok(()) => Ok(()),
         Err(why) => Err(tell_unheld(err, why)),
     }

@@ -88,7 +88,9 @@ fn main(rt: HostRuntime) -> Served {
                 policy: Blank::new(1),
                 err: Blank::new(1),
             };
-            Served::with(serve_live::<HostRuntime, Brand, Brand>(&rt, system, &paths, blanks))
+            let status = serve_live::<HostRuntime, Brand, Brand>(&rt, system, &paths, blanks);
+            drop(paths);
+            Served::with(status)
         }
         Outcome::ToSealChain(path) => {
             let system = System {
@@ -101,7 +103,9 @@ fn main(rt: HostRuntime) -> Served {
                 err: Blank::new(1),
                 sealed: Blank::new(1),
             };
-            Served::with(seal_chain::<Brand, Brand, Brand>(rt.alloc(), system, &path, blanks))
+            let status = seal_chain::<Brand, Brand, Brand>(rt.alloc(), system, &path, blanks);
+            drop(path);
+            Served::with(status)
         }
     };
     drop(held);

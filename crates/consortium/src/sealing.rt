@@ -66,7 +66,10 @@ pub(crate) fn seal_chain<O: Ledger, E: Ledger, B: Ledger>(
     };
     let policy = match last_policy(alloc, files, &chain, &mut err) {
         Ok(policy) => policy,
-        Err(status) => return status,
+        Err(status) => {
+            drop(chain);
+            return status;
+        }
     };
     let mut sealing = Sealing {
         alloc,

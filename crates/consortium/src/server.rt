@@ -97,7 +97,8 @@ impl<'a, R: AllocGlobal + Threads + Wait + Sync> PipeServer<'a, R> {
             Ok(policy) => policy,
             Err(ending) => return end(err, ending),
         };
-        let status = self.serve_under(&policy, None, err);
+        let mut none = None;
+        let status = self.serve_under(&policy, &mut none, err);
         drop(policy);
         status
     }
@@ -129,17 +130,19 @@ impl<'a, R: AllocGlobal + Threads + Wait + Sync> PipeServer<'a, R> {
             Err(status) => return status,
         };
         let Next { policy, digest } = next;
-        let run = NextRun {
+        let mut run = Some(NextRun {
             chain: HeldChain { held, chain: file },
             digest,
-        };
-        let status = self.serve_under(&policy, Some(run), err);
+        });
+        let status = self.serve_under(&policy, &mut run, err);
+        drop(run);
         drop(policy);
         status
     }
 
-    // Holds the folder, looks at the pipes, and serves at them if nothing is amiss.
-    fn serve_under<E: Sink>(&self, policy: &Policy, run: Option<NextRun>, err: &mut E) -> u8 {
+    // Holds the folder, looks at the pipes, and serves at them if nothing is amiss. (The run is lent:
+    // let go by itself, it would be taken apart in the proof at each way out.)
+    fn serve_under<E: Sink>(&self, policy: &Policy, run: &mut Option<NextRun>, err: &mut E) -> u8 {
         let alloc = self.rt.alloc();
         let mut folder = match Folder::at(alloc, self.files, &self.paths.pipes) {
             Ok(folder) => folder,
@@ -197,7 +200,7 @@ impl<'a, R: AllocGlobal + Threads + Wait + Sync> PipeServer<'a, R> {
         folder: &Folder,
         operator: &Option<Pipes<'static>>,
         events: &'s Events<'n>,
-        mut run: Option<NextRun>,
+        run: &mut Option<NextRun>,
         err: &mut E,
     ) -> u8 {
         let rt = self.rt;
@@ -227,7 +230,7 @@ impl<'a, R: AllocGlobal + Threads + Wait + Sync> PipeServer<'a, R> {
             self.take_back();
             return refuse(err, unready);
         }
-        match self.begin(&mut run) {
+        match self.begin(run) {
             Ok(()) => {}
             Err(unentered) => {
                 self.take_back();
@@ -253,7 +256,7 @@ impl<'a, R: AllocGlobal + Threads + Wait + Sync> PipeServer<'a, R> {
             }
             return ended.status();
         }
-        let entered = self.end(policy, &mut run);
+        let entered = self.end(policy, run);
         let status = status_of(rt, ended, entered, events, is_told, err);
         drop(answers);
         status

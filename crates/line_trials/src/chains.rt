@@ -1,5 +1,5 @@
 //! What goes by a chain, from its words to the files that it opens.
-use crate::uses::{ALONE, Case, NONE, TO_SEAL, is_as_told, used};
+use crate::uses::{ALONE, Case, Ended, NONE, TO_SEAL, comes_so, used};
 use std::process::{Abort, ExitCode};
 use std::test::Fail;
 
@@ -64,8 +64,7 @@ fn chains_are_audited_by_the_files_they_name(rt: HostRuntime) -> Result<(), Fail
             opened: opened.as_bytes(),
             status,
         };
-        let ended = used(&rt, &case, NONE)?;
-        assert!(&rt; is_as_told(&ended, &case), "{chain}");
+        assert!(&rt; comes_so(&rt, &case, NONE)?, "{chain}");
     }
     Ok(())
 }
@@ -84,8 +83,7 @@ fn a_seal_of_a_chain_is_handed_on(rt: HostRuntime) -> Result<(), Fail> {
         opened: b"c\n",
         status: TO_SEAL,
     };
-    let ended = used(&rt, &case, NONE)?;
-    assert!(&rt; is_as_told(&ended, &case));
+    assert!(&rt; comes_so(&rt, &case, NONE)?);
     Ok(())
 }
 
@@ -319,8 +317,7 @@ fn case_behind<'a>(behind: &Behind) -> Case<'a> {
 fn scripts_go_on_behind_a_chain(rt: HostRuntime) -> Result<(), Fail> {
     for behind in BEHINDS {
         let case = case_behind(behind);
-        let ended = used(&rt, &case, NONE)?;
-        assert!(&rt; is_as_told(&ended, &case), "{}", behind.opened);
+        assert!(&rt; comes_so(&rt, &case, NONE)?, "{}", behind.opened);
     }
     Ok(())
 }
@@ -334,13 +331,19 @@ fn the_last_run_of_a_chain_is_reported_on(rt: HostRuntime) -> Result<(), Fail> {
         ..case_behind(&REFUSED)
     };
     let plain = used(&rt, &case, NONE)?;
-    assert!(&rt; plain.status == ExitCode::from(0) && plain.kept.ends_with(b"</html>\n"));
     let words: &[&[u8]] = &[b"consortium", b"report", b"--chain", b"s", b"--html", b"k"];
     let case = Case { words, ..case };
     let last = used(&rt, &case, NONE)?;
-    assert!(&rt; last.status == ExitCode::from(0) && last.err.is_empty() && last.open == 0);
-    assert!(&rt; last.out.as_slice() == plain.out.as_slice());
-    assert!(&rt; last.kept.as_slice() == plain.kept.as_slice());
-    assert!(&rt; last.opened.as_slice() == b"s\nw\nb\nk\n".as_slice());
+    expect_alike(&rt, &plain, &last);
+    drop(last);
+    drop(plain);
     Ok(())
+}
+
+fn expect_alike(rt: &impl Abort, plain: &Ended, last: &Ended) {
+    assert!(rt; plain.status == ExitCode::from(0) && plain.kept.ends_with(b"</html>\n"));
+    assert!(rt; last.status == ExitCode::from(0) && last.err.is_empty() && last.open == 0);
+    assert!(rt; last.out.as_slice() == plain.out.as_slice());
+    assert!(rt; last.kept.as_slice() == plain.kept.as_slice());
+    assert!(rt; last.opened.as_slice() == b"s\nw\nb\nk\n".as_slice());
 }

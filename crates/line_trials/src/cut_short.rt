@@ -1,6 +1,6 @@
 //! Calls that a signal cuts short: each is made again, and nothing is lost or told twice.
 use crate::disk::Refusal;
-use crate::uses::{Faults, NONE, commands, is_as_told, long_texts, used};
+use crate::uses::{Faults, NONE, comes_so, commands, long_texts};
 use std::test::Fail;
 
 // More calls than a use of these files makes, at the files and at its output.
@@ -16,8 +16,7 @@ fn calls_that_are_cut_short_are_made_again(rt: HostRuntime) -> Result<(), Fail> 
     for case in commands(&long) {
         for at in 0..CALLS {
             for faults in [Faults { files: at, ..cut }, Faults { out: at, ..cut }] {
-                let ended = used(&rt, &case, faults)?;
-                assert!(&rt; is_as_told(&ended, &case), "{at}");
+                assert!(&rt; comes_so(&rt, &case, faults)?, "{at}");
             }
         }
     }

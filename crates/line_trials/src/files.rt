@@ -4,7 +4,8 @@ ghost use Rattle.std.specs.Prelude.{◌≡◌};
 
 use crate::disk::{Disk, Name, Refusal, Stream, System};
 use crate::uses::{
-    Case, Ended, Faults, Long, NONE, commands, disk_of, is_as_told, long_texts, taken, used,
+    Case, Ended, Faults, Long, NONE, comes_so, commands, disk_of, is_as_told, long_texts, taken,
+    used,
 };
 use program_files::{Count, FileSink, StreamSink};
 use std::cell::RefCell;
@@ -23,8 +24,7 @@ fn long_files_are_read_and_written_whole(rt: HostRuntime) -> Result<(), Fail> {
     for (posts, step) in [(2500, usize::MAX), (1100, 1000), (30, 1)] {
         let long = long_texts(&rt, posts)?;
         for case in commands(&long) {
-            let ended = used(&rt, &case, Faults { step, ..NONE })?;
-            assert!(&rt; is_as_told(&ended, &case), "{step}");
+            assert!(&rt; comes_so(&rt, &case, Faults { step, ..NONE })?, "{step}");
         }
     }
     Ok(())
@@ -113,6 +113,36 @@ fn is_broken_at(name: Name, ended: &Ended, case: &Case) -> bool {
     is_ended && is_prefix && is_told
 }
 
+// What a use came to where a call may have failed.
+#[derive(Clone, Copy)]
+enum Came {
+    // None failed, and it ended as told.
+    Whole,
+    // It ended as one does where that call fails.
+    Broken,
+    Otherwise(&'static str),
+}
+
+// What it came to, where a call at its files may have failed.
+fn came_at_files(ended: &Ended, case: &Case) -> Came {
+    match ended.failed {
+        None => {
+            if is_as_told(ended, case) {
+                Came::Whole
+            } else {
+                Came::Otherwise("a use with no fault ended otherwise")
+            }
+        }
+        Some(name) => {
+            if is_broken_at(name, ended, case) {
+                Came::Broken
+            } else {
+                Came::Otherwise("a use with a fault at a file ended otherwise")
+            }
+        }
+    }
+}
+
 // Fails each call at the files once, and gives how many there are.
 fn fail_at_files<R>(rt: &R, case: &Case, faults: Faults) -> Result<u64, Fail>
 where
@@ -120,15 +150,12 @@ where
 {
     for files in 0..4000u64 {
         let ended = used(rt, case, Faults { files, ..faults })?;
-        let Some(name) = ended.failed else {
-            return if is_as_told(&ended, case) {
-                Ok(files)
-            } else {
-                Err(Fail::from("a use with no fault ended otherwise"))
-            };
-        };
-        if !is_broken_at(name, &ended, case) {
-            return Err(Fail::from("a use with a fault at a file ended otherwise"));
+        let came = came_at_files(&ended, case);
+        drop(ended);
+        match came {
+            Came::Whole => return Ok(files),
+            Came::Broken => {}
+            Came::Otherwise(why) => return Err(Fail::from(why)),
         }
     }
     Err(Fail::from("there are too many calls"))
@@ -163,6 +190,25 @@ fn kept_before_output<'a>(case: &Case<'a>) -> &'a [u8] {
     b""
 }
 
+// What a use came to, where a call at its output may have failed.
+fn came_at_output(ended: &Ended, case: &Case) -> Came {
+    if ended.status != ExitCode::from(3) {
+        return if is_as_told(ended, case) {
+            Came::Whole
+        } else {
+            Came::Otherwise("a use with no fault ended otherwise")
+        };
+    }
+    let is_told = ended.err.as_slice() == b"write fault\n".as_slice();
+    let is_prefix = case.out.starts_with(&ended.out) && case.opened.starts_with(&ended.opened);
+    let is_kept = ended.kept.as_slice() == kept_before_output(case);
+    if is_told && is_prefix && is_kept && ended.open == 0 {
+        Came::Broken
+    } else {
+        Came::Otherwise("a use with a fault at its output ended otherwise")
+    }
+}
+
 // Fails each call at standard output once, and gives how many there are.
 fn fail_at_output<R>(rt: &R, case: &Case, faults: Faults) -> Result<u64, Fail>
 where
@@ -170,18 +216,12 @@ where
 {
     for out in 0..4000u64 {
         let ended = used(rt, case, Faults { out, ..faults })?;
-        if ended.status != ExitCode::from(3) {
-            return if is_as_told(&ended, case) {
-                Ok(out)
-            } else {
-                Err(Fail::from("a use with no fault ended otherwise"))
-            };
-        }
-        let is_told = ended.err.as_slice() == b"write fault\n".as_slice();
-        let is_prefix = case.out.starts_with(&ended.out) && case.opened.starts_with(&ended.opened);
-        let is_kept = ended.kept.as_slice() == kept_before_output(case);
-        if !is_told || !is_prefix || !is_kept || ended.open != 0 {
-            return Err(Fail::from("a use with a fault at its output ended otherwise"));
+        let came = came_at_output(&ended, case);
+        drop(ended);
+        match came {
+            Came::Whole => return Ok(out),
+            Came::Broken => {}
+            Came::Otherwise(why) => return Err(Fail::from(why)),
         }
     }
     Err(Fail::from("there are too many calls"))
@@ -252,8 +292,11 @@ fn one_write_takes_all(rt: HostRuntime) -> Result<(), Fail> {
     };
     let kept = kept_at_once::<Brand>(&disk, bytes, Blank::new(1));
     let told = said_at_once::<Brand>(stream, bytes, Blank::new(1));
+    let written = taken(&disk.kept, rt.alloc());
+    drop(disk);
+    let written = written?;
     assert!(&rt; kept == Ok(3_000_000) && told == Ok(3_000_000));
-    assert!(&rt; taken(&disk.kept, rt.alloc())?.as_slice() == bytes);
+    assert!(&rt; written.as_slice() == bytes);
     assert!(&rt; taken(&said, rt.alloc())?.as_slice() == bytes);
     Ok(())
 }
@@ -265,9 +308,11 @@ where
 {
     for _ in 0..times {
         for case in commands(long) {
-            let ended = used(rt, &case, NONE)?;
+            let is_told = comes_so(rt, &case, NONE)?;
             let broken = used(rt, &case, Faults { out: 0, ..NONE })?;
-            if !is_as_told(&ended, &case) || broken.status != ExitCode::from(3) {
+            let is_broken = broken.status == ExitCode::from(3);
+            drop(broken);
+            if !is_told || !is_broken {
                 return Err(Fail::from("a use ended otherwise"));
             }
         }

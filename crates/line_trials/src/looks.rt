@@ -1,7 +1,7 @@
 //! Checks and reports over a system in memory: which file was not read, and why, and the page that
 //! is written behind a report.
 use crate::disk::{Name, Refusal};
-use crate::uses::{ALONE, Case, Ended, Faults, NONE, is_as_told, used};
+use crate::uses::{ALONE, Case, Ended, Faults, NONE, comes_so, used};
 use std::io::Eprint;
 use std::process::{Abort, ExitCode};
 use std::sync::Wait;
@@ -90,8 +90,7 @@ fn missing_files_are_told_by_their_paths(rt: HostRuntime) -> Result<(), Fail> {
         ),
     ];
     for case in cases {
-        let ended = used(&rt, &case, NONE)?;
-        assert!(&rt; is_as_told(&ended, &case));
+        assert!(&rt; comes_so(&rt, &case, NONE)?);
     }
     Ok(())
 }
@@ -124,6 +123,21 @@ where
     R: AllocGlobal + Threads + Wait + Sync + Eprint,
 {
     let whole = used(rt, case, NONE)?;
+    let failed = fail_each(rt, case, refusal, is_denied, &whole);
+    drop(whole);
+    failed
+}
+
+fn fail_each<R>(
+    rt: &R,
+    case: &Case,
+    refusal: Refusal,
+    is_denied: bool,
+    whole: &Ended,
+) -> Result<u64, Fail>
+where
+    R: AllocGlobal + Threads + Wait + Sync + Eprint,
+{
     for files in 0..400u64 {
         let faults = Faults {
             refusal,
@@ -131,14 +145,25 @@ where
             ..NONE
         };
         let ended = used(rt, case, faults)?;
-        let Some(name) = ended.failed else {
+        let failed = ended.failed;
+        let is_so = is_broken_or_whole(&ended, whole, is_denied);
+        drop(ended);
+        if failed.is_none() {
             return Ok(files);
-        };
-        if !is_broken_so(&ended, &whole, name, is_denied) {
+        }
+        if !is_so {
             return Err(Fail::from("a report with a fault ended otherwise"));
         }
     }
     Err(Fail::from("there are too many calls"))
+}
+
+// So where one of its calls failed.
+fn is_broken_or_whole(ended: &Ended, whole: &Ended, is_denied: bool) -> bool {
+    match ended.failed {
+        Some(name) => is_broken_so(ended, whole, name, is_denied),
+        None => true,
+    }
 }
 
 #[test]
@@ -155,16 +180,24 @@ fn each_call_of_a_report_fails(rt: HostRuntime) -> Result<(), Fail> {
     ];
     let case = case_of(words, "", "", "");
     let whole = used(&rt, &case, NONE)?;
-    assert!(&rt; whole.status == ExitCode::from(0) && whole.err.is_empty());
-    assert!(&rt; whole.out.starts_with(b"who holds what") && whole.kept.ends_with(b"</html>\n"));
-    assert!(&rt; whole.opened.as_slice() == b"w\nb\nb\nk\n".as_slice());
-    for (refusal, is_denied) in [
-        (Refusal::Other, false),
-        (Refusal::PermissionDenied, true),
-        (Refusal::TimedOut, false),
-    ] {
-        let calls = fail_at_files(&rt, &case, refusal, is_denied)?;
+    expect_page(&rt, &whole);
+    drop(whole);
+    for (refusal, is_denied) in REFUSALS {
+        let calls = fail_at_files(&rt, &case, *refusal, *is_denied)?;
         assert!(&rt; calls == 11, "{calls}");
     }
     Ok(())
+}
+
+// The errors of its calls, and whether they say that it is not permitted.
+const REFUSALS: &[(Refusal, bool)] = &[
+    (Refusal::Other, false),
+    (Refusal::PermissionDenied, true),
+    (Refusal::TimedOut, false),
+];
+
+fn expect_page(rt: &impl Abort, whole: &Ended) {
+    assert!(rt; whole.status == ExitCode::from(0) && whole.err.is_empty());
+    assert!(rt; whole.out.starts_with(b"who holds what") && whole.kept.ends_with(b"</html>\n"));
+    assert!(rt; whole.opened.as_slice() == b"w\nb\nb\nk\n".as_slice());
 }

@@ -129,10 +129,26 @@ where
             refusal: faults.refusal,
         },
     );
+    let ended = ended_of(alloc, &disk, &out, &err, status);
+    drop(disk);
+    drop(out);
+    drop(err);
+    ended
+}
+
+// What it came to, with what the disk and the streams were given. (They are lent: let go by
+// themselves, they would be taken apart in the proof at each way out.)
+fn ended_of(
+    alloc: Global,
+    disk: &Disk,
+    out: &RefCell<Vec<u8>>,
+    err: &RefCell<Vec<u8>>,
+    status: ExitCode,
+) -> Result<Ended, Fail> {
     Ok(Ended {
         status,
-        out: taken(&out, alloc)?,
-        err: taken(&err, alloc)?,
+        out: taken(out, alloc)?,
+        err: taken(err, alloc)?,
         kept: taken(&disk.kept, alloc)?,
         opened: taken(&disk.opened, alloc)?,
         open: disk.open.get(),
@@ -157,7 +173,11 @@ where
     );
     match outcome {
         Outcome::Ended(served) => served.report(rt),
-        Outcome::ToServe(paths) => told_to_serve(disk, &paths),
+        Outcome::ToServe(paths) => {
+            let status = told_to_serve(disk, &paths);
+            drop(paths);
+            status
+        }
         Outcome::ToSealChain(path) => {
             let _ = disk.note(path.as_str());
             ExitCode::from(TO_SEAL)
@@ -177,9 +197,9 @@ fn told_to_serve(disk: &Disk, paths: &LivePaths) -> ExitCode {
         Some(path) => path.as_str(),
         None => "none",
     };
-    for line in [paths.policy.as_str(), paths.pipes.as_str(), book] {
-        let _ = disk.note(line);
-    }
+    let _ = disk.note(paths.policy.as_str());
+    let _ = disk.note(paths.pipes.as_str());
+    let _ = disk.note(book);
     for path in &paths.after {
         let _ = disk.note(path.as_str());
     }
@@ -212,6 +232,22 @@ pub(crate) fn is_as_told(ended: &Ended, case: &Case) -> bool {
     let is_kept = ended.kept.as_slice() == case.kept && ended.opened.as_slice() == case.opened;
     let is_closed = ended.open == 0;
     ended.status == ExitCode::from(case.status) && is_written && is_kept && is_closed
+}
+
+/// Whether a use comes to what the case says. What it came to is let go here, by `drop`: a `?` on it, or
+/// the end of a block, would write out or take apart the whole type in each test.
+pub(crate) fn comes_so<R>(rt: &R, case: &Case, faults: Faults) -> Result<bool, Fail>
+where
+    R: AllocGlobal + Threads + Wait + Sync + Eprint,
+{
+    match used(rt, case, faults) {
+        Ok(ended) => {
+            let is_so = is_as_told(&ended, case);
+            drop(ended);
+            Ok(is_so)
+        }
+        Err(fail) => Err(fail),
+    }
 }
 
 // The texts of a long run of one process: so many barriers that script, replies and book are longer

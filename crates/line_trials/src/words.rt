@@ -1,6 +1,6 @@
 //! What comes of the words of a command line: those that are refused, the names that are asked for,
 //! and the line on standard error.
-use crate::uses::{ALONE, Case, Faults, NONE, TO_SERVE, is_as_told, used};
+use crate::uses::{ALONE, Case, Ended, Faults, NONE, TO_SERVE, comes_so, is_as_told, used};
 use std::io::Eprint;
 use std::process::{Abort, ExitCode};
 use std::sync::Wait;
@@ -412,8 +412,7 @@ where
 {
     for (words, err, opened, status) in rows {
         let case = refused(words, err.as_bytes(), opened.as_bytes(), *status);
-        let ended = used(rt, &case, NONE)?;
-        assert!(rt; is_as_told(&ended, &case), "{err} {opened}");
+        assert!(rt; comes_so(rt, &case, NONE)?, "{err} {opened}");
     }
     Ok(())
 }
@@ -500,10 +499,16 @@ const SERVED_AT: &[(&[&[u8]], &str)] = &[
 fn servers_are_handed_their_paths(rt: HostRuntime) -> Result<(), Fail> {
     for (words, paths) in SERVED_AT {
         let case = refused(words, b"", paths.as_bytes(), TO_SERVE);
-        let ended = used(&rt, &case, NONE)?;
-        assert!(&rt; is_as_told(&ended, &case), "{paths}");
+        assert!(&rt; comes_so(&rt, &case, NONE)?, "{paths}");
     }
     Ok(())
+}
+
+// Whether the line on standard error ends before its end, and all else is as told.
+fn is_broken_off(ended: &Ended, case: &Case) -> bool {
+    let is_prefix = case.err.starts_with(&ended.err) && ended.out.is_empty();
+    let is_opened = ended.opened.as_slice() == case.opened && ended.open == 0;
+    ended.status == ExitCode::from(case.status) && is_prefix && is_opened
 }
 
 // Each call at standard error fails once, in turn. It changes nothing but that the line ends there.
@@ -517,13 +522,14 @@ where
         for err in 0..40u64 {
             let step = 5;
             let ended = used(rt, &case, Faults { step, err, ..NONE })?;
-            if is_as_told(&ended, &case) {
+            let is_whole = is_as_told(&ended, &case);
+            let is_broken = is_broken_off(&ended, &case);
+            drop(ended);
+            if is_whole {
                 break;
             }
+            assert!(rt; is_broken, "{line}");
             calls = err.wrapping_add(1);
-            assert_eq!(rt; ended.status, ExitCode::from(*status));
-            assert!(rt; case.err.starts_with(&ended.err) && ended.out.is_empty());
-            assert!(rt; ended.opened.as_slice() == case.opened && ended.open == 0);
         }
         let pieces = case.err.len().div_ceil(5) as u64;
         assert!(rt;
@@ -579,8 +585,7 @@ where
         out: out.as_bytes(),
         ..refused(words, b"write fault\n", opened.as_bytes(), 3)
     };
-    let ended = used(rt, &case, NONE)?;
-    Ok(is_as_told(&ended, &case))
+    comes_so(rt, &case, NONE)
 }
 
 #[test]
@@ -608,8 +613,7 @@ where
     R: AllocGlobal + Threads + Wait + Sync + Eprint,
 {
     let case = refused(words, b"read fault\n", opened.as_bytes(), 3);
-    let ended = used(rt, &case, NONE)?;
-    Ok(is_as_told(&ended, &case))
+    comes_so(rt, &case, NONE)
 }
 
 // Whether a command whose policy has this name, which no file has, asks for that name.
@@ -717,11 +721,36 @@ fn long_names_are_asked_for_whole(rt: HostRuntime) -> Result<(), Fail> {
     Ok(())
 }
 
+// Where the use below writes something else, on standard error too, keeps or opens something else, or
+// ends with another status: each differs from it in one.
+const OTHERWISE: &[(&[u8], &[u8], &[u8], &[u8], u8)] = &[
+    (b"", b"write fault\n", b"", b"w\ns\nx\n", 3),
+    (b"rank 0 p0\n", b"write fault\n", b"", b"w\ns\nx\n", 3),
+    (
+        b"rank 0 p0\nrefused NoSuchRequest\n\n",
+        b"write fault\n",
+        b"",
+        b"w\ns\nx\n",
+        3,
+    ),
+    (RUN, b"", b"", b"w\ns\nx\n", 3),
+    (RUN, b"read fault\n", b"", b"w\ns\nx\n", 3),
+    (RUN, b"write fault", b"", b"w\ns\nx\n", 3),
+    (RUN, b"write fault\n", b"book 1\n", b"w\ns\nx\n", 3),
+    (RUN, b"write fault\n", b"", b"w\ns\n", 3),
+    (RUN, b"write fault\n", b"", b"s\nw\nx\n", 3),
+    (RUN, b"write fault\n", b"", b"w\ns\nx\n!\n", 3),
+    (RUN, b"write fault\n", b"", b"w\ns\nx\n", 0),
+    (RUN, b"write fault\n", b"", b"w\ns\nx\n", 5),
+];
+
+const RUN: &[u8] = b"rank 0 p0\nrefused NoSuchRequest\n";
+
 // The comparison by which the other tests judge sees each thing that it compares.
 #[test]
 fn what_ended_otherwise_is_not_as_told(rt: HostRuntime) -> Result<(), Fail> {
     let told = Case {
-        out: b"rank 0 p0\nrefused NoSuchRequest\n",
+        out: RUN,
         ..refused(
             &[b"consortium", b"run", b"w", b"s", b"--book=x"],
             b"write fault\n",
@@ -730,48 +759,24 @@ fn what_ended_otherwise_is_not_as_told(rt: HostRuntime) -> Result<(), Fail> {
         )
     };
     let mut ended = used(&rt, &told, NONE)?;
-    assert!(&rt; is_as_told(&ended, &told));
-    for other in [
-        Case { out: b"", ..told },
-        Case {
-            out: b"rank 0 p0\n",
-            ..told
-        },
-        Case {
-            out: b"rank 0 p0\nrefused NoSuchRequest\n\n",
-            ..told
-        },
-        Case { err: b"", ..told },
-        Case {
-            err: b"read fault\n",
-            ..told
-        },
-        Case {
-            err: b"write fault",
-            ..told
-        },
-        Case {
-            kept: b"book 1\n",
-            ..told
-        },
-        Case {
-            opened: b"w\ns\n",
-            ..told
-        },
-        Case {
-            opened: b"s\nw\nx\n",
-            ..told
-        },
-        Case {
-            opened: b"w\ns\nx\n!\n",
-            ..told
-        },
-        Case { status: 0, ..told },
-        Case { status: 5, ..told },
-    ] {
-        assert!(&rt; !is_as_told(&ended, &other));
-    }
+    expect_noticed(&rt, &ended, told);
     ended.open = 1;
     assert!(&rt; !is_as_told(&ended, &told));
+    drop(ended);
     Ok(())
+}
+
+fn expect_noticed(rt: &impl Abort, ended: &Ended, told: Case) {
+    assert!(rt; is_as_told(ended, &told));
+    for (out, err, kept, opened, status) in OTHERWISE {
+        let other = Case {
+            out: *out,
+            err: *err,
+            kept: *kept,
+            opened: *opened,
+            status: *status,
+            ..told
+        };
+        assert!(rt; !is_as_told(ended, &other));
+    }
 }

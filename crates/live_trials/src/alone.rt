@@ -129,6 +129,7 @@ fn serve_alone<R: Abort + Wait>(
     let mut source = new_client(session.lines, reads, piece, session.due, heard);
     let mut sink = new_answers(session.answers, writes, heard);
     let end = end_alone(rt, alloc, &policy, begins, &mut source, &mut sink);
+    drop(policy);
     if sink.are_all() { end } else { None }
 }
 
@@ -306,7 +307,7 @@ bad BadField
 }
 
 // How many calls a session may make, its lines, their answers, and how it is to end.
-const BOUNDED: [(u64, &[u8], &str, Due); 6] = [
+const BOUNDED: &[(u64, &[u8], &str, Due)] = &[
     (
         2,
         b"info 0\nfoo\npost 0 barrier\n#\nwait 0\ninfo 0\n",
@@ -368,23 +369,30 @@ const BOUNDED: [(u64, &[u8], &str, Due); 6] = [
 #[test]
 fn a_session_makes_as_many_calls_as_it_may(rt: HostRuntime) {
     for (most, lines, answers, due) in BOUNDED {
-        let heard = nothing_heard();
-        let policy = wall(&rt, rt.alloc(), ALONE);
-        let mut source = new_client(lines, Fuse::Whole, WHOLE, due, &heard);
-        let mut sink = new_answers(answers, Fuse::Whole, &heard);
-        let bound = Some(most);
-        let end = end_within(
-            &rt,
-            rt.alloc(),
-            &policy,
-            true,
-            bound,
-            &mut source,
-            &mut sink,
-        );
-        assert!(&rt; end == Some(due.closing()), "{most} calls");
-        assert!(&rt; sink.are_all() && heard.is_whole(), "{most} calls");
+        let session = Session {
+            lines: *lines,
+            answers: *answers,
+            due: *due,
+        };
+        assert!(&rt; is_bounded(&rt, rt.alloc(), *most, session), "{most} calls");
     }
+}
+
+// Whether the session comes to what it is to where it may make so many calls.
+fn is_bounded<R: Abort + Wait>(rt: &R, alloc: Global, most: u64, session: Session) -> bool {
+    let Session {
+        lines,
+        answers,
+        due,
+    } = session;
+    let heard = nothing_heard();
+    let policy = wall(rt, alloc, ALONE);
+    let mut source = new_client(lines, Fuse::Whole, WHOLE, due, &heard);
+    let mut sink = new_answers(answers, Fuse::Whole, &heard);
+    let bound = Some(most);
+    let end = end_within(rt, alloc, &policy, true, bound, &mut source, &mut sink);
+    drop(policy);
+    end == Some(due.closing()) && sink.are_all() && heard.is_whole()
 }
 
 /// A session that is sent home does not begin: nothing is read or written, and its desk hears

@@ -1,11 +1,13 @@
 //! A session that is held, by a client that does not go on, holds up nobody; and one that waits
 //! takes no processor.
 
-use crate::devices::{Answers, Client, Due, Hold, hearers, new_answers, new_client, nothing_heard};
+use crate::devices::{
+    Answers, Client, Due, Heard, Hold, hearers, new_answers, new_client, nothing_heard,
+};
 use crate::machines::hall;
 use crate::parties::{many, wall};
 use live_session::{Desk, Peer, SessionEnd, ShowDesk, serve_all};
-use std::alloc::Global;
+use std::alloc::{AllocError, Global};
 use std::process::Abort;
 use std::sync::Wait;
 use std::test::Fail;
@@ -50,6 +52,7 @@ fn both_end<'a, R: Abort + Threads + Wait + Sync>(
         are_all = are_all && session.peer.sink.are_all();
     }
     drop(served);
+    drop(policy);
     are_all
 }
 
@@ -164,27 +167,37 @@ impl<'a, R: Clock> ShowDesk<Answers<'a>, ()> for Late<'a, R> {
     fn show(&mut self, _sink: &Answers<'a>, _receipt: &()) {}
 }
 
-/// Sessions that wait take no processor: 31 wait for one that comes a second late, and all together
-/// use less than half a second of processor time. They are woken when it has come.
-#[test]
-fn sessions_that_wait_take_no_processor(rt: HostRuntime) -> Result<(), Fail> {
-    let text = many(rt.alloc(), 32)?;
-    let policy = wall(&rt, rt.alloc(), &text);
-    let hearers = hearers(rt.alloc(), 32)?;
-    let mut peers = Vec::new(rt.alloc());
+// The devices of processes that all wait for the one that comes late.
+fn one_late<'a, R: Clock>(
+    rt: &'a R,
+    alloc: Global,
+    hearers: &'a [Heard],
+) -> Result<Vec<Peer<Late<'a, R>, Answers<'a>>>, AllocError> {
+    let mut peers = Vec::new(alloc);
     for (process, heard) in hearers.iter().enumerate() {
         let late = if process == 7 { 1000 } else { 0 };
         let lines = b"post 0 barrier\nwait 0\n";
         let source = Late {
             client: new_client(lines, Fuse::Whole, 64, at_end(2), heard),
-            rt: &rt,
+            rt,
             delay: Duration::from_millis(late),
         };
         let sink = new_answers("posted 0\ndelivered none\n", Fuse::Whole, heard);
         peers.push(Peer { source, sink })?;
     }
-    let machine = hall(&rt, rt.alloc(), &policy);
+    Ok(peers)
+}
+
+/// Sessions that wait take no processor: 31 wait for one that comes a second late, and all together
+/// use less than half a second of processor time. They are woken when it has come.
+#[test]
+fn sessions_that_wait_take_no_processor(rt: HostRuntime) -> Result<(), Fail> {
+    let text = many(rt.alloc(), 32)?;
+    let hearers = hearers(rt.alloc(), 32)?;
     let before = rt.process_cpu_time()?;
+    let peers = one_late(&rt, rt.alloc(), hearers.as_slice())?;
+    let policy = wall(&rt, rt.alloc(), &text);
+    let machine = hall(&rt, rt.alloc(), &policy);
     let served = serve_all::<_, _, _, _, ()>(&rt, rt.alloc(), &policy, machine, peers, None).expect(
         &rt,
         "not served",
@@ -193,6 +206,7 @@ fn sessions_that_wait_take_no_processor(rt: HostRuntime) -> Result<(), Fail> {
         assert!(&rt; session.peer.sink.are_all());
     }
     drop(served);
+    drop(policy);
     let used = rt.process_cpu_time()?.saturating_sub(before).as_millis();
     assert!(&rt; used < 500, "{used} ms while sessions wait");
     for heard in &hearers {

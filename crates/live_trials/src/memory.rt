@@ -78,6 +78,7 @@ where
         fuse: Fuse::Whole,
     };
     let end = end_alone(rt, alloc, &policy, true, &mut source, &mut sink);
+    drop(policy);
     let closing = end.expect(rt, "no session began");
     assert!(rt; closing.end == SessionEnd::EndOfStream);
     assert!(rt; sink.is_same && sink.rest.is_empty());

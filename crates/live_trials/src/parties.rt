@@ -1,4 +1,7 @@
 //! The policies of these tests. Alpha and beta are rivals, and everybody is at home with alpha.
+//!
+//! Who has read a policy hands it to `drop`, before each way out: where it goes out of scope by itself
+//! it is taken apart in the function's own proof, which costs half a minute each time.
 
 use std::alloc::{AllocError, Global};
 use std::process::Abort;

@@ -168,6 +168,7 @@ fn is_served_promptly<R: Abort + Wait>(rt: &R, alloc: Global, piece: usize) -> b
     let bytes = Vec::new(alloc);
     let mut sink = Kept { rt, bytes };
     let end = end_alone(rt, alloc, &policy, true, &mut source, &mut sink);
+    drop(policy);
     let answers = ANSWERS.as_bytes();
     let due = Closing {
         end: SessionEnd::EndOfStream,

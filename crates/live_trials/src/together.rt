@@ -115,7 +115,9 @@ fn served_so<R: Abort + Threads + Wait + Sync>(
 ) -> usize {
     let policy = wall(rt, alloc, text);
     let machine = hall(rt, alloc, &policy);
-    served_at(rt, alloc, &policy, machine, rows)
+    let count = served_at(rt, alloc, &policy, machine, rows);
+    drop(policy);
+    count
 }
 
 /// Each waits until the other has posted.
@@ -141,7 +143,9 @@ fn a_wait_is_one_call_of_the_bound(rt: HostRuntime) {
     );
     let policy = wall(&rt, rt.alloc(), FRIENDS);
     let machine = hall(&rt, rt.alloc(), &policy);
-    assert!(&rt; served_within(&rt, rt.alloc(), &policy, machine, &[row, row], Some(2)) == 2);
+    let count = served_within(&rt, rt.alloc(), &policy, machine, &[row, row], Some(2));
+    drop(policy);
+    assert!(&rt; count == 2);
 }
 
 /// Nobody waits for what cannot come: the others have left, or wait too.
@@ -228,6 +232,7 @@ fn all_that_wait_in_vain_are_told(rt: HostRuntime) {
         assert!(&rt; session.peer.sink.are_all());
     }
     drop(served);
+    drop(policy);
     for heard in &hearers {
         assert!(&rt; heard.is_whole());
     }
@@ -305,6 +310,7 @@ fn fault_of<R: Threads + Wait + Sync + Abort>(
         }
         Err(fault) => Some(fault),
     };
+    drop(policy);
     for heard in &hearers {
         assert!(rt; heard.is_silent());
     }

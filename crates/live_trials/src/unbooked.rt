@@ -17,7 +17,9 @@ use wall_labels::memory::Fuse;
 fn comes_so<R: Abort + Threads + Wait + Sync>(rt: &R, alloc: Global, calls: u64, row: Row) -> bool {
     let policy = wall(rt, alloc, ALONE);
     let machine = booked_for(rt, alloc, &policy, calls);
-    served_at(rt, alloc, &policy, machine, &[row]) == 1
+    let count = served_at(rt, alloc, &policy, machine, &[row]);
+    drop(policy);
+    count == 1
 }
 
 fn unbooked_row<'a>(lines: &'a str, answers: &'a str, calls: u64) -> Row<'a> {
@@ -136,6 +138,7 @@ fn who_sleeps_is_told_too(rt: HostRuntime) {
         assert!(&rt; session.closing.end == SessionEnd::Unbooked && session.peer.sink.are_all());
     }
     drop(served);
+    drop(policy);
     for heard in &hearers {
         assert!(&rt; heard.is_whole());
     }
@@ -180,6 +183,7 @@ fn who_sleeps_for_another_instance_is_told_too(rt: HostRuntime) {
         assert!(&rt; session.closing.end == SessionEnd::Unbooked && session.peer.sink.are_all());
     }
     drop(served);
+    drop(policy);
     for heard in &hearers {
         assert!(&rt; heard.is_whole());
     }

@@ -8,6 +8,7 @@ use std::sync::Wait;
 use std::test::Fail;
 use std::thread::Threads;
 use wall_labels::memory::{Fuse, MemorySource};
+use wall_policy::Policy;
 
 // The datasets alpha and beta are rivals. The first two processes are at home there, and the two
 // others are consultants, at home nowhere.
@@ -550,6 +551,17 @@ fn readers_of_earlier_books_fail(rt: HostRuntime) -> Result<(), Fail> {
     Ok(())
 }
 
+// What the last two processes have held, a line for each dataset.
+fn held_text(alloc: Global, wall: &Policy) -> Result<String, AllocError> {
+    let mut held = String::new(alloc);
+    for (process, dataset) in wall.held() {
+        if 2 <= process.number() {
+            write!(held, "{} {}\n", process.number(), dataset.number())?;
+        }
+    }
+    Ok(held)
+}
+
 // A server goes by the policy after the books: n0 has held alpha, the first dataset, and m0
 // nothing.
 #[test]
@@ -559,13 +571,9 @@ fn policies_are_read_after_books(rt: HostRuntime) -> Result<(), Fail> {
     let Ok(wall) = read_wall_after(rt.alloc(), &mut policy, earlier) else {
         return Err(Fail::from("an earlier book is refused"));
     };
-    let mut held = String::new(rt.alloc());
-    for (process, dataset) in wall.held() {
-        if 2 <= process.number() {
-            write!(held, "{} {}\n", process.number(), dataset.number())?;
-        }
-    }
-    assert!(&rt; held.as_str() == "2 0\n", "{held}");
+    let held = held_text(rt.alloc(), &wall);
     drop(wall);
+    let held = held?;
+    assert!(&rt; held.as_str() == "2 0\n", "{held}");
     Ok(())
 }

@@ -7,7 +7,7 @@ use report_page::report_page;
 use std::process::Abort;
 use std::test::Fail;
 use wall_labels::memory::{ExpectingSink, Fuse, MemorySource};
-use wall_policy::read_policy;
+use wall_policy::{Policy, read_policy};
 
 pub(crate) const MEANING: &str = "banks: alpha, beta
 a0 is at home at alpha
@@ -164,23 +164,54 @@ fn pages_so(
     Ok(ended == status && is_all)
 }
 
+// The page of a book of the policy.
+fn page_of(rt: &(impl AllocGlobal + Abort), book: &str) -> Vec<u8> {
+    let wall = match read_policy(rt.alloc(), WALL.as_bytes()) {
+        Ok(wall) => wall,
+        Err(_) => panic!(rt; "no policy"),
+    };
+    let page = page_under(rt, &wall, book);
+    drop(wall);
+    page
+}
+
+fn page_under(rt: &(impl AllocGlobal + Abort), wall: &Policy, book: &str) -> Vec<u8> {
+    let page = match read_book(rt.alloc(), wall, book.as_bytes()) {
+        Ok(book) => {
+            let page = report_page(rt.alloc(), wall, &book);
+            drop(book);
+            page
+        }
+        Err(_) => panic!(rt; "no book"),
+    };
+    match page {
+        Ok(page) => page,
+        Err(_) => panic!(rt; "no page"),
+    }
+}
+
+const NO_OUTPUT: Fuses = [
+    Fuse::Whole,
+    Fuse::Whole,
+    Fuse::Whole,
+    Fuse::After(0),
+    Fuse::Whole,
+];
+
+const NO_PAGE: Fuses = [
+    Fuse::Whole,
+    Fuse::Whole,
+    Fuse::Whole,
+    Fuse::Whole,
+    Fuse::After(0),
+];
+
 // A page is written behind the report of its book, and only there.
 #[test]
 fn pages_are_written_behind_reports(rt: HostRuntime) -> Result<(), Fail> {
-    let wall = match read_policy(rt.alloc(), WALL.as_bytes()) {
-        Ok(wall) => wall,
-        Err(_) => return Err(Fail::from("no policy")),
-    };
-    let book = match read_book(rt.alloc(), &wall, ALPHA_TO_N0.as_bytes()) {
-        Ok(book) => book,
-        Err(_) => return Err(Fail::from("no book")),
-    };
-    let page = match report_page(rt.alloc(), &wall, &book) {
-        Ok(page) => page,
-        Err(_) => return Err(Fail::from("no page")),
-    };
-    let said = REPORT.as_bytes();
+    let page = page_of(&rt, ALPHA_TO_N0);
     let page = page.as_slice();
+    let said = REPORT.as_bytes();
     let none = b"".as_slice();
     assert!(&rt; pages_so(&rt, SOUND, ALPHA_TO_N0, said, page, none, 0)?);
     let unsound = ALPHA_TO_N0.replace(rt.alloc(), "made 1 2", "made 1 1")?;
@@ -189,37 +220,34 @@ fn pages_are_written_behind_reports(rt: HostRuntime) -> Result<(), Fail> {
     let cut = b"book: cut\n".as_slice();
     assert!(&rt; pages_so(&rt, SOUND, "book 1\n", none, none, cut, 2)?);
     let fault = b"write fault\n".as_slice();
-    let broken = [
-        Fuse::Whole,
-        Fuse::Whole,
-        Fuse::Whole,
-        Fuse::After(0),
-        Fuse::Whole,
-    ];
-    assert!(&rt; pages_so(&rt, broken, ALPHA_TO_N0, said, none, fault, 3)?);
-    let broken = [
-        Fuse::Whole,
-        Fuse::Whole,
-        Fuse::Whole,
-        Fuse::Whole,
-        Fuse::After(0),
-    ];
-    assert!(&rt; pages_so(&rt, broken, ALPHA_TO_N0, said, page, fault, 3)?);
+    assert!(&rt; pages_so(&rt, NO_OUTPUT, ALPHA_TO_N0, said, none, fault, 3)?);
+    assert!(&rt; pages_so(&rt, NO_PAGE, ALPHA_TO_N0, said, page, fault, 3)?);
     Ok(())
+}
+
+// The place of a fuse, and the line where it goes off.
+const UNREAD: &[(usize, &str)] = &[
+    (0, "cannot read policy.toml: the read failed\n"),
+    (1, "cannot read monday.book: the read failed\n"),
+    (2, "cannot read calls.book: the read failed\n"),
+];
+
+fn unread_at(place: usize, fuse: Fuse) -> Fuses {
+    let whole = Fuse::Whole;
+    match place {
+        0 => [fuse, whole, whole, whole, whole],
+        1 => [whole, fuse, whole, whole, whole],
+        _ => [whole, whole, fuse, whole, whole],
+    }
 }
 
 // The file that was not read is told by its path.
 #[test]
 fn unread_files_are_told_by_their_paths(rt: HostRuntime) -> Result<(), Fail> {
     let none = b"".as_slice();
-    for (place, line) in [
-        (0, "cannot read policy.toml: the read failed\n"),
-        (1, "cannot read monday.book: the read failed\n"),
-        (2, "cannot read calls.book: the read failed\n"),
-    ] {
-        for fuse in [Fuse::After(0), Fuse::After(1)] {
-            let mut fuses = SOUND;
-            fuses[place] = fuse;
+    for (place, line) in UNREAD {
+        for reads in 0..2u64 {
+            let fuses = unread_at(*place, Fuse::After(reads));
             assert!(&rt;
                 pages_so(&rt, fuses, ALPHA_TO_N0, none, none, line.as_bytes(), 3)?,
                 "{line}"
@@ -229,13 +257,16 @@ fn unread_files_are_told_by_their_paths(rt: HostRuntime) -> Result<(), Fail> {
     Ok(())
 }
 
+// When the writer fails, the status, and the line.
+const WRITTEN: &[(Fuse, u8, &str)] = &[(Fuse::Whole, 0, ""), (Fuse::After(0), 3, "write fault\n")];
+
 #[test]
 fn texts_are_written_whole(rt: HostRuntime) {
-    for (fuse, status, line) in [(Fuse::Whole, 0, ""), (Fuse::After(0), 3, "write fault\n")] {
-        let mut out = sink(MEANING.as_bytes(), fuse);
+    for (fuse, status, line) in WRITTEN {
+        let mut out = sink(MEANING.as_bytes(), *fuse);
         let mut err = sink(line.as_bytes(), Fuse::Whole);
         let ended = text_on(MEANING.as_bytes(), &mut out, &mut err);
-        assert!(&rt; ended == status && out.is_same);
+        assert!(&rt; ended == *status && out.is_same);
         assert!(&rt; err.rest.is_empty() && err.is_same);
     }
 }

@@ -1,10 +1,13 @@
 //! Processes served at the same time, each over lines at hand: what each is answered, the book that
 //! is written while they are, and how it ends.
+//!
+//! A policy and what serving came to are handed to `drop` before a way out: where one goes out of scope
+//! by itself it is taken apart in the function's own proof, which costs half a minute each time.
 use crate::endings::{sink, source};
 use crate::runs::ALONE;
 use live_book::{BookReceipt, BookSink, Receipt, SinkReceipt};
 use live_session::{Desk, Peer, Session, SessionEnd, ShowDesk};
-use program_commands::{Ending, ServeEnd, Unready, read_wall, refuse, serve_on};
+use program_commands::{ServeEnd, Unready, read_wall, refuse, serve_on};
 use std::alloc::{AllocError, Global};
 use std::process::Abort;
 use std::sync::Wait;
@@ -176,8 +179,49 @@ fn peers<'a>(alloc: Global, talks: &[Talk<'a>]) -> Result<Vec<At<'a>>, AllocErro
     Ok(peers)
 }
 
-fn wall<R: AllocGlobal>(rt: &R, text: &str) -> Result<Policy, Ending<'static>> {
-    read_wall(rt.alloc(), &mut source(text.as_bytes(), Fuse::Whole))
+// The policy of a text that has one.
+fn wall(rt: &(impl AllocGlobal + Abort), text: &str) -> Policy {
+    match read_wall(rt.alloc(), &mut source(text.as_bytes(), Fuse::Whole)) {
+        Ok(wall) => wall,
+        Err(_) => panic!(rt; "the policy is refused"),
+    }
+}
+
+// What serving such processes came to, with this writer of the book.
+type Ended<'a, B> = ServeEnd<Lines<'a>, ExpectingSink<'a>, B>;
+
+// Serves these processes under the policy of a text, with a book that is to come.
+fn serve_due<'a, 'b, R>(
+    rt: &R,
+    policy: &str,
+    peers: Vec<At<'a>>,
+    err: &mut ExpectingSink,
+    kept: Due<'b>,
+) -> Ended<'a, Due<'b>>
+where
+    R: Abort + AllocGlobal + Threads + Wait + Sync,
+{
+    let wall = wall(rt, policy);
+    let ended = serve_on(rt, rt.alloc(), &wall, peers, None, err, Some(kept));
+    drop(wall);
+    ended
+}
+
+// The same with a book that is kept as it comes, or without a book.
+fn serve_keeping<'a, R>(
+    rt: &R,
+    policy: &str,
+    peers: Vec<At<'a>>,
+    err: &mut ExpectingSink,
+    kept: Option<Keeping>,
+) -> Ended<'a, Keeping>
+where
+    R: Abort + AllocGlobal + Threads + Wait + Sync,
+{
+    let wall = wall(rt, policy);
+    let ended = serve_on(rt, rt.alloc(), &wall, peers, None, err, kept);
+    drop(wall);
+    ended
 }
 
 // Whether a session ended so, all its answers written.
@@ -200,7 +244,7 @@ fn have_ended_so(sessions: &[Session<Lines, ExpectingSink>], talks: &[Talk]) -> 
 
 // Whether serving these processes ends so, with this line on standard error and this status, and
 // keeps this book.
-fn serves_so<R: AllocGlobal + Threads + Wait + Sync>(
+fn serves_so<R: Abort + AllocGlobal + Threads + Wait + Sync>(
     rt: &R,
     policy: &str,
     talks: &[Talk],
@@ -208,16 +252,15 @@ fn serves_so<R: AllocGlobal + Threads + Wait + Sync>(
     line: &str,
     status: u8,
 ) -> Result<bool, Fail> {
-    let Ok(wall) = wall(rt, policy) else {
-        return Err(Fail::from("the policy is refused"));
-    };
     let peers = peers(rt.alloc(), talks)?;
     let mut err = sink(line.as_bytes(), Fuse::Whole);
-    let kept = Some(expecting(book, Fuse::Whole));
-    let ended = serve_on(rt, rt.alloc(), &wall, peers, None, &mut err, kept);
+    let kept = expecting(book, Fuse::Whole);
+    let ended = serve_due(rt, policy, peers, &mut err, kept);
     let is_told = err.is_same && err.rest.is_empty();
     let is_so = have_ended_so(&ended.sessions, talks) && ended.status == status;
-    Ok(is_told && is_kept(&ended.book) && is_so)
+    let is_kept = is_kept(&ended.book);
+    drop(ended);
+    Ok(is_told && is_kept && is_so)
 }
 
 const BROADCAST: &[Talk] = &[
@@ -248,30 +291,40 @@ end 3
 ",
 ];
 
+// Whether the book came back, and is that of the one order of posts or that of the other.
+fn is_of_either(back: &Option<Keeping>) -> bool {
+    match back {
+        Some(kept) => {
+            let book = kept.bytes.as_slice();
+            BROADCAST_BOOKS[0].as_bytes() == book || BROADCAST_BOOKS[1].as_bytes() == book
+        }
+        None => false,
+    }
+}
+
+fn expect_broadcast<R>(rt: &R) -> Result<(), Fail>
+where
+    R: Abort + AllocGlobal + Threads + Wait + Sync,
+{
+    let peers = peers(rt.alloc(), BROADCAST)?;
+    let kept = Keeping {
+        bytes: Vec::new(rt.alloc()),
+    };
+    let mut err = sink(b"", Fuse::Whole);
+    let ended = serve_keeping(rt, FRIENDS, peers, &mut err, Some(kept));
+    assert!(rt; ended.status == 0 && err.is_same);
+    assert!(rt; have_ended_so(&ended.sessions, BROADCAST));
+    assert!(rt; is_of_either(&ended.book));
+    drop(ended);
+    Ok(())
+}
+
 // Two processes of which one gives the other a number: each is answered as the other posts, and the
 // book is that of the run, whoever posted first.
 #[test]
 fn two_processes_talk(rt: HostRuntime) -> Result<(), Fail> {
     for _ in 0..20 {
-        let wall = wall(&rt, FRIENDS).expect(&rt, "the policy is refused");
-        let kept = Keeping {
-            bytes: Vec::new(rt.alloc()),
-        };
-        let mut err = sink(b"", Fuse::Whole);
-        let peers = peers(rt.alloc(), BROADCAST)?;
-        let ended = serve_on(&rt, rt.alloc(), &wall, peers, None, &mut err, Some(kept));
-        let ServeEnd {
-            status,
-            sessions,
-            book,
-        } = ended;
-        assert!(&rt; status == 0 && err.is_same);
-        assert!(&rt; have_ended_so(&sessions, BROADCAST));
-        let kept = book.expect(&rt, "the book is gone");
-        let book = kept.bytes.as_slice();
-        assert!(&rt;
-            BROADCAST_BOOKS[0].as_bytes() == book || BROADCAST_BOOKS[1].as_bytes() == book
-        );
+        expect_broadcast(&rt)?;
     }
     Ok(())
 }
@@ -330,23 +383,32 @@ const HEADLESS: &[Talk] = &[Talk {
     end: SessionEnd::EndOfStream,
 }];
 
+// Whether there is no writer of a book.
+fn is_bookless(back: &Option<Keeping>) -> bool {
+    match back {
+        Some(_) => false,
+        None => true,
+    }
+}
+
+// These processes are served without a book, and nothing is written on standard error.
+fn expect_bookless<R>(rt: &R, policy: &str, talks: &[Talk]) -> Result<(), Fail>
+where
+    R: Abort + AllocGlobal + Threads + Wait + Sync,
+{
+    let peers = peers(rt.alloc(), talks)?;
+    let mut err = sink(b"", Fuse::Whole);
+    let ended = serve_keeping(rt, policy, peers, &mut err, None);
+    assert!(rt; ended.status == 0 && err.is_same && is_bookless(&ended.book));
+    assert!(rt; have_ended_so(&ended.sessions, talks));
+    drop(ended);
+    Ok(())
+}
+
 #[test]
 fn heads_are_told(rt: HostRuntime) -> Result<(), Fail> {
     assert!(&rt; serves_so(&rt, ALONE, HEADS, ALONE_BOOK, "", 0)?);
-    let wall = wall(&rt, ALONE).expect(&rt, "the policy is refused");
-    let mut err = sink(b"", Fuse::Whole);
-    let peers = peers(rt.alloc(), HEADLESS)?;
-    let ended = serve_on::<_, _, _, _, Keeping>(
-        &rt,
-        rt.alloc(),
-        &wall,
-        peers,
-        None,
-        &mut err,
-        None,
-    );
-    assert!(&rt; ended.status == 0 && have_ended_so(&ended.sessions, HEADLESS));
-    Ok(())
+    expect_bookless(&rt, ALONE, HEADLESS)
 }
 
 // The lines of a process, at a desk that looks how much of the book there is before each reply.
@@ -396,16 +458,14 @@ const ALONE_LOOKS: &str = "info 0\npost 0 bcast 0 int32 1 as alpha 5\nfoo\nwait 
 
 const ALONE_SEEN: &[usize] = &[7, 76, 76, 76];
 
-// Whether the book had these lengths as replies were told to a process alone.
-fn sees_so<R: Abort + AllocGlobal + Threads + Wait + Sync>(
-    rt: &R,
-    seen: &[usize],
-) -> Result<bool, Fail> {
-    let wall = wall(rt, ALONE).expect(rt, "the policy is refused");
-    let mut peers = Vec::new(rt.alloc());
+type LookedAt<'a> = Peer<Looking<'a>, ExpectingSink<'a>>;
+
+// A process alone that looks for these lengths, as the only one.
+fn one_that_looks<'a>(alloc: Global, seen: &'a [usize]) -> Result<Vec<LookedAt<'a>>, AllocError> {
     let lines = source(ALONE_LOOKS.as_bytes(), Fuse::Whole);
     let answers =
         "info size 1 rank 0\nposted 0\nbad BadVerb\ndelivered none\nrefused NoSuchRequest\n";
+    let mut peers = Vec::new(alloc);
     peers.push(Peer {
         source: Looking {
             lines,
@@ -414,19 +474,37 @@ fn sees_so<R: Abort + AllocGlobal + Threads + Wait + Sync>(
         },
         sink: sink(answers.as_bytes(), Fuse::Whole),
     })?;
+    Ok(peers)
+}
+
+// Whether all its answers were written, and whether it saw all lengths that it looked for.
+fn has_seen(session: &Session<Looking, ExpectingSink>) -> (bool, bool) {
+    let Looking { due, is_due, .. } = &session.peer.source;
+    let sink = &session.peer.sink;
+    (
+        sink.is_same && sink.rest.is_empty(),
+        *is_due && due.is_empty(),
+    )
+}
+
+// Whether the book had these lengths as replies were told to a process alone.
+fn sees_so<R: Abort + AllocGlobal + Threads + Wait + Sync>(
+    rt: &R,
+    seen: &[usize],
+) -> Result<bool, Fail> {
+    let peers = one_that_looks(rt.alloc(), seen)?;
     let mut err = sink(b"", Fuse::Whole);
     let kept = Some(expecting(ALONE_BOOK, Fuse::Whole));
+    let wall = wall(rt, ALONE);
     let ended = serve_on(rt, rt.alloc(), &wall, peers, None, &mut err, kept);
-    let ServeEnd {
-        status,
-        mut sessions,
-        book,
-    } = ended;
-    let session = sessions.pop().expect(rt, "no session");
-    let Looking { due, is_due, .. } = &session.peer.source;
-    let is_told = session.peer.sink.is_same && session.peer.sink.rest.is_empty();
-    assert!(rt; status == 0 && is_told && is_kept(&book));
-    Ok(*is_due && due.is_empty())
+    drop(wall);
+    let (is_told, has_seen) = match ended.sessions.last() {
+        Some(session) => has_seen(session),
+        None => panic!(rt; "no session"),
+    };
+    assert!(rt; ended.status == 0 && is_told && is_kept(&ended.book));
+    drop(ended);
+    Ok(has_seen)
 }
 
 // Before each reply the desk is shown a receipt of the book's own writer, which had the entries of
@@ -439,100 +517,122 @@ fn entries_are_written_before_a_reply(rt: HostRuntime) -> Result<(), Fail> {
     Ok(())
 }
 
+// A process alone asks who it is.
+const ASKING: Talk = Talk {
+    lines: "info 0\n",
+    answers: "info size 1 rank 0\n",
+    end: SessionEnd::EndOfStream,
+};
+
+// The same with no answer, with another one, with one too many, and with another end.
+const OTHERS: &[Talk] = &[
+    Talk {
+        lines: "info 0\n",
+        answers: "",
+        end: SessionEnd::EndOfStream,
+    },
+    Talk {
+        lines: "info 0\n",
+        answers: "info size 2 rank 0\n",
+        end: SessionEnd::EndOfStream,
+    },
+    Talk {
+        lines: "info 0\n",
+        answers: "info size 1 rank 0\nleft\n",
+        end: SessionEnd::EndOfStream,
+    },
+    Talk {
+        lines: "info 0\n",
+        answers: "info size 1 rank 0\n",
+        end: SessionEnd::Left,
+    },
+];
+
 // What the tests rest on notices other answers and another end, another book, another line and
 // another status.
 #[test]
 fn other_sessions_are_noticed(rt: HostRuntime) -> Result<(), Fail> {
-    let lines = "info 0\n";
-    let answers = "info size 1 rank 0\n";
-    let end = SessionEnd::EndOfStream;
     let book = "book 1\nend 0\n";
-    let talk = Talk {
-        lines,
-        answers,
-        end,
-    };
-    assert!(&rt; serves_so(&rt, ALONE, &[talk], book, "", 0)?);
-    for other in [
-        Talk {
-            answers: "",
-            ..talk
-        },
-        Talk {
-            answers: "info size 2 rank 0\n",
-            ..talk
-        },
-        Talk {
-            answers: "info size 1 rank 0\nleft\n",
-            ..talk
-        },
-        Talk {
-            end: SessionEnd::Left,
-            ..talk
-        },
-    ] {
-        assert!(&rt; !serves_so(&rt, ALONE, &[other], book, "", 0)?);
+    assert!(&rt; serves_so(&rt, ALONE, &[ASKING], book, "", 0)?);
+    for other in OTHERS {
+        assert!(&rt; !serves_so(&rt, ALONE, &[*other], book, "", 0)?);
     }
-    assert!(&rt; !serves_so(&rt, ALONE, &[talk], "", "", 0)?);
-    assert!(&rt; !serves_so(&rt, ALONE, &[talk], "book 1\nend 1\n", "", 0)?);
-    assert!(&rt; !serves_so(&rt, ALONE, &[talk], book, "no thread\n", 0)?);
-    assert!(&rt; !serves_so(&rt, ALONE, &[talk], book, "", 3)?);
+    assert!(&rt; !serves_so(&rt, ALONE, &[ASKING], "", "", 0)?);
+    assert!(&rt; !serves_so(&rt, ALONE, &[ASKING], "book 1\nend 1\n", "", 0)?);
+    assert!(&rt; !serves_so(&rt, ALONE, &[ASKING], book, "no thread\n", 0)?);
+    assert!(&rt; !serves_so(&rt, ALONE, &[ASKING], book, "", 3)?);
+    Ok(())
+}
+
+// So many processes are served where there are two.
+fn expect_other_count<R>(rt: &R, count: u32) -> Result<(), Fail>
+where
+    R: Abort + AllocGlobal + Threads + Wait + Sync,
+{
+    let mut peers = Vec::new(rt.alloc());
+    for _ in 0..count {
+        peers.push(peer(&ALONE_TALKS[0], Fuse::Whole, Fuse::Whole))?;
+    }
+    let mut err = sink(b"bad arguments\n", Fuse::Whole);
+    let ended = serve_due(rt, FRIENDS, peers, &mut err, expecting("", Fuse::Whole));
+    assert!(rt; ended.status == 5 && ended.sessions.is_empty());
+    assert!(rt; err.is_same && err.rest.is_empty() && is_kept(&ended.book));
+    drop(ended);
     Ok(())
 }
 
 // There are to be devices for each process, and no others: else none is read or written.
 #[test]
 fn devices_are_those_of_each_process(rt: HostRuntime) -> Result<(), Fail> {
-    for count in [0, 1, 3] {
-        let wall = wall(&rt, FRIENDS).expect(&rt, "the policy is refused");
-        let mut peers = Vec::new(rt.alloc());
-        for _ in 0..count {
-            peers.push(peer(&ALONE_TALKS[0], Fuse::Whole, Fuse::Whole))?;
-        }
-        let mut err = sink(b"bad arguments\n", Fuse::Whole);
-        let kept = Some(expecting("", Fuse::Whole));
-        let ended = serve_on(&rt, rt.alloc(), &wall, peers, None, &mut err, kept);
-        assert!(&rt; ended.status == 5 && ended.sessions.is_empty());
-        assert!(&rt; err.is_same && err.rest.is_empty() && is_kept(&ended.book));
-    }
+    expect_other_count(&rt, 0)?;
+    expect_other_count(&rt, 1)?;
+    expect_other_count(&rt, 3)
+}
+
+// The first of two processes, where its second answer is not written.
+const UNTOLD: Talk = Talk {
+    lines: "info 0\ninfo 0\n",
+    answers: "info size 2 rank 0\n",
+    end: SessionEnd::WriteFailed,
+};
+
+// The same where its lines are not read.
+const UNREAD: Talk = Talk {
+    lines: "info 0\ninfo 0\n",
+    answers: "",
+    end: SessionEnd::ReadFailed,
+};
+
+// The second.
+const GOING_ON: Talk = Talk {
+    lines: "post 0 barrier\nwait 0\ninfo 0\nleave\n",
+    answers: "posted 0\npending\ninfo size 2 rank 1\nleft\n",
+    end: SessionEnd::Left,
+};
+
+// The first process's devices fail so.
+fn expect_failing<R>(rt: &R, talk: Talk, reads: Fuse, writes: Fuse) -> Result<(), Fail>
+where
+    R: Abort + AllocGlobal + Threads + Wait + Sync,
+{
+    let mut peers = Vec::new(rt.alloc());
+    peers.push(peer(&talk, reads, writes))?;
+    peers.push(peer(&GOING_ON, Fuse::Whole, Fuse::Whole))?;
+    let mut err = sink(b"", Fuse::Whole);
+    let book = "book 1\npost 1 0 barrier gives 0 as none passed\nend 1\n";
+    let ended = serve_due(rt, FRIENDS, peers, &mut err, expecting(book, Fuse::Whole));
+    assert!(rt; ended.status == 0 && err.is_same);
+    assert!(rt; is_kept(&ended.book));
+    assert!(rt; have_ended_so(&ended.sessions, &[talk, GOING_ON]));
+    drop(ended);
     Ok(())
 }
 
 // A device that fails is the end of its session, and changes nothing for the other.
 #[test]
 fn devices_of_a_session_fail(rt: HostRuntime) -> Result<(), Fail> {
-    let first = Talk {
-        lines: "info 0\ninfo 0\n",
-        answers: "info size 2 rank 0\n",
-        end: SessionEnd::WriteFailed,
-    };
-    let unread = Talk {
-        answers: "",
-        end: SessionEnd::ReadFailed,
-        ..first
-    };
-    let other = Talk {
-        lines: "post 0 barrier\nwait 0\ninfo 0\nleave\n",
-        answers: "posted 0\npending\ninfo size 2 rank 1\nleft\n",
-        end: SessionEnd::Left,
-    };
-    for (talk, reads, writes) in [
-        (first, Fuse::Whole, Fuse::After(1)),
-        (unread, Fuse::After(0), Fuse::Whole),
-    ] {
-        let wall = wall(&rt, FRIENDS).expect(&rt, "the policy is refused");
-        let mut peers = Vec::new(rt.alloc());
-        peers.push(peer(&talk, reads, writes))?;
-        peers.push(peer(&other, Fuse::Whole, Fuse::Whole))?;
-        let mut err = sink(b"", Fuse::Whole);
-        let book = "book 1\npost 1 0 barrier gives 0 as none passed\nend 1\n";
-        let kept = Some(expecting(book, Fuse::Whole));
-        let ended = serve_on(&rt, rt.alloc(), &wall, peers, None, &mut err, kept);
-        assert!(&rt; ended.status == 0 && err.is_same);
-        assert!(&rt; is_kept(&ended.book));
-        assert!(&rt; have_ended_so(&ended.sessions, &[talk, other]));
-    }
-    Ok(())
+    expect_failing(&rt, UNTOLD, Fuse::Whole, Fuse::After(1))?;
+    expect_failing(&rt, UNREAD, Fuse::After(0), Fuse::Whole)
 }
 
 // The same process where its first call is not booked.
@@ -554,30 +654,33 @@ enum Came {
     Other,
 }
 
-fn came_to<R: AllocGlobal + Threads + Wait + Sync>(
+// What such an end is, where the line of a fault was told or not.
+fn came_so(ended: &Ended<Due>, talks: &[Talk], is_told: bool) -> Came {
+    let is_so = have_ended_so(&ended.sessions, talks);
+    if ended.status == 0 && is_so && is_kept(&ended.book) {
+        return Came::Whole;
+    }
+    if ended.status != 3 || !is_told || !is_begun(&ended.book) {
+        return Came::Other;
+    }
+    if ended.sessions.is_empty() {
+        return Came::Unserved;
+    }
+    if is_so { Came::Cut } else { Came::Other }
+}
+
+fn came_to<R: Abort + AllocGlobal + Threads + Wait + Sync>(
     rt: &R,
     talks: &[Talk],
     write: u64,
 ) -> Result<Came, Fail> {
-    let Ok(wall) = wall(rt, ALONE) else {
-        return Err(Fail::from("the policy is refused"));
-    };
     let peers = peers(rt.alloc(), talks)?;
     let mut err = sink(b"write fault\n", Fuse::Whole);
-    let kept = Some(expecting(ALONE_BOOK, Fuse::After(write)));
-    let ended = serve_on(rt, rt.alloc(), &wall, peers, None, &mut err, kept);
-    let is_so = have_ended_so(&ended.sessions, talks);
-    let is_told = err.is_same && err.rest.is_empty();
-    if ended.status == 0 && is_so && is_kept(&ended.book) {
-        return Ok(Came::Whole);
-    }
-    if ended.status != 3 || !is_told || !is_begun(&ended.book) {
-        return Ok(Came::Other);
-    }
-    if ended.sessions.is_empty() {
-        return Ok(Came::Unserved);
-    }
-    Ok(if is_so { Came::Cut } else { Came::Other })
+    let kept = expecting(ALONE_BOOK, Fuse::After(write));
+    let ended = serve_due(rt, ALONE, peers, &mut err, kept);
+    let came = came_so(&ended, talks, err.is_same && err.rest.is_empty());
+    drop(ended);
+    Ok(came)
 }
 
 // Where the first line of the book is not written, no session begins; where the entries of a call
@@ -606,24 +709,12 @@ fn books_of_sessions_fail_at_each_write(rt: HostRuntime) -> Result<(), Fail> {
 // No book is asked for, and a standard error that fails changes no status.
 #[test]
 fn sessions_without_a_book_are_served(rt: HostRuntime) -> Result<(), Fail> {
-    let wall = wall(&rt, FRIENDS).expect(&rt, "the policy is refused");
-    let mut err = sink(b"", Fuse::Whole);
-    let all = peers(rt.alloc(), BROADCAST)?;
-    let ended = serve_on::<_, _, _, _, Keeping>(&rt, rt.alloc(), &wall, all, None, &mut err, None);
-    assert!(&rt; ended.status == 0 && err.is_same && ended.book.is_none());
-    assert!(&rt; have_ended_so(&ended.sessions, BROADCAST));
+    expect_bookless(&rt, FRIENDS, BROADCAST)?;
     let mut broken = sink(b"bad arguments\n", Fuse::After(0));
     let none = peers(rt.alloc(), &[])?;
-    let ended = serve_on::<_, _, _, _, Keeping>(
-        &rt,
-        rt.alloc(),
-        &wall,
-        none,
-        None,
-        &mut broken,
-        None,
-    );
+    let ended = serve_keeping(&rt, FRIENDS, none, &mut broken, None);
     assert!(&rt; ended.status == 5 && ended.sessions.is_empty());
+    drop(ended);
     Ok(())
 }
 

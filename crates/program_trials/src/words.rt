@@ -1,5 +1,5 @@
 //! Words of the command line.
-use program_words::{ArgFault, Command, NextPaths, VERSION, read_words, usage_text};
+use program_words::{ArgFault, Command, NextPaths, ServePaths, VERSION, read_words, usage_text};
 use std::alloc::Global;
 use std::process::Abort;
 use std::test::Fail;
@@ -328,65 +328,83 @@ fn tell_plain(text: &mut String, command: &Command) -> Result<(), Fail> {
     Ok(())
 }
 
-// The command that the words ask for with its files, or why they are refused.
-fn told(alloc: Global, words: &[&str]) -> Result<String, Fail> {
-    let mut text = String::new(alloc);
-    let after = match read_words(alloc, words) {
-        Ok(Command::Replay(paths)) => {
-            let book = paths.book.unwrap_or("none");
-            write!(text, "replay {} {} {book}", paths.policy, paths.script)?;
-            paths.after
-        }
-        Ok(Command::Run(paths)) => {
-            let book = paths.book.unwrap_or("none");
-            write!(text, "run {} {} {book}", paths.policy, paths.script)?;
-            paths.after
-        }
-        Ok(Command::Audit(paths)) => {
-            write!(text, "audit {} {}", paths.policy, paths.book)?;
-            paths.after
-        }
-        Ok(Command::Serve(paths)) => {
-            let book = paths.book.unwrap_or("none");
-            write!(text, "serve {} {} {book}", paths.policy, paths.pipes)?;
-            if let Some(chain) = paths.chain {
-                write!(text, " on {chain}")?;
-            }
-            if paths.sync {
-                write!(text, " synced")?;
-            }
-            if paths.times {
-                write!(text, " timed")?;
-            }
-            paths.after
-        }
-        Ok(Command::Seal(paths)) => {
-            write!(text, "seal {} {} {}", paths.policy, paths.book, paths.out)?;
-            paths.after
-        }
-        Ok(Command::Check(paths)) => {
-            let script = paths.script.unwrap_or("none");
-            let book = paths.book.unwrap_or("none");
-            write!(text, "check {} {script} {book}", paths.policy)?;
-            paths.after
-        }
-        Ok(Command::Report(paths)) => {
-            let html = paths.html.unwrap_or("none");
-            write!(text, "report {} {} {html}", paths.policy, paths.book)?;
-            paths.after
-        }
-        Ok(command) => {
-            tell_plain(&mut text, &command)?;
-            Vec::new(alloc)
-        }
-        Err(fault) => {
-            write!(text, "{fault}")?;
-            Vec::new(alloc)
-        }
-    };
+// The earlier books.
+fn tell_after(text: &mut String, after: &[&str]) -> Result<(), Fail> {
     for path in after {
         write!(text, " {path}")?;
     }
+    Ok(())
+}
+
+fn tell_serve(text: &mut String, paths: &ServePaths) -> Result<(), Fail> {
+    let book = paths.book.unwrap_or("none");
+    write!(text, "serve {} {} {book}", paths.policy, paths.pipes)?;
+    if let Some(chain) = paths.chain {
+        write!(text, " on {chain}")?;
+    }
+    if paths.sync {
+        write!(text, " synced")?;
+    }
+    if paths.times {
+        write!(text, " timed")?;
+    }
+    tell_after(text, &paths.after)
+}
+
+// A command with its files. It is lent: taken apart, each way out would let go of what is left of it.
+fn tell(text: &mut String, command: &Command) -> Result<(), Fail> {
+    match command {
+        Command::Replay(paths) => {
+            let book = paths.book.unwrap_or("none");
+            write!(text, "replay {} {} {book}", paths.policy, paths.script)?;
+            tell_after(text, &paths.after)
+        }
+        Command::Run(paths) => {
+            let book = paths.book.unwrap_or("none");
+            write!(text, "run {} {} {book}", paths.policy, paths.script)?;
+            tell_after(text, &paths.after)
+        }
+        Command::Audit(paths) => {
+            write!(text, "audit {} {}", paths.policy, paths.book)?;
+            tell_after(text, &paths.after)
+        }
+        Command::Serve(paths) => tell_serve(text, paths),
+        Command::Seal(paths) => {
+            write!(text, "seal {} {} {}", paths.policy, paths.book, paths.out)?;
+            tell_after(text, &paths.after)
+        }
+        Command::Check(paths) => {
+            let script = paths.script.unwrap_or("none");
+            let book = paths.book.unwrap_or("none");
+            write!(text, "check {} {script} {book}", paths.policy)?;
+            tell_after(text, &paths.after)
+        }
+        Command::Report(paths) => {
+            let html = paths.html.unwrap_or("none");
+            write!(text, "report {} {} {html}", paths.policy, paths.book)?;
+            tell_after(text, &paths.after)
+        }
+        _ => tell_plain(text, command),
+    }
+}
+
+fn tell_fault(text: &mut String, fault: ArgFault) -> Result<(), Fail> {
+    write!(text, "{fault}")?;
+    Ok(())
+}
+
+// The command that the words ask for with its files, or why they are refused.
+fn told(alloc: Global, words: &[&str]) -> Result<String, Fail> {
+    let mut text = String::new(alloc);
+    let ended = match read_words(alloc, words) {
+        Ok(command) => {
+            let ended = tell(&mut text, &command);
+            drop(command);
+            ended
+        }
+        Err(fault) => tell_fault(&mut text, fault),
+    };
+    ended?;
     Ok(text)
 }
 
@@ -420,13 +438,18 @@ fn other_words_of_later_commands_are_bad_arguments(rt: HostRuntime) -> Result<()
     Ok(())
 }
 
+// The commands, and those of them that have options.
+const NAMED: &[&str] = &[
+    "replay", "run", "audit", "serve", "seal", "check", "report", "usage", "version",
+];
+
+const WITH_OPTIONS: &[&str] = &["replay", "run", "audit", "serve", "seal", "check", "report"];
+
 #[test]
 fn each_command_has_its_usage(rt: HostRuntime) -> Result<(), Fail> {
     let program = usage_text(None).unwrap_or("");
-    for name in [
-        "replay", "run", "audit", "serve", "seal", "check", "report", "usage", "version",
-    ] {
-        let text = usage_text(Some(name)).unwrap_or("");
+    for name in NAMED {
+        let text = usage_text(Some(*name)).unwrap_or("");
         let begun = format!(in rt.alloc(); "usage: consortium {name}")?;
         assert!(&rt; text.starts_with(begun.as_str()), "{text}");
         let listed = format!(in rt.alloc(); "\n  {name}")?;
@@ -440,12 +463,11 @@ fn each_command_has_its_usage(rt: HostRuntime) -> Result<(), Fail> {
 
 #[test]
 fn no_line_of_a_usage_is_long(rt: HostRuntime) {
-    let names = ["replay", "run", "audit", "serve", "seal", "check", "report"];
     for line in usage_text(None).unwrap_or("").lines() {
         assert!(&rt; line.len() <= 100, "{line}");
     }
-    for name in names {
-        for line in usage_text(Some(name)).unwrap_or("").lines() {
+    for name in WITH_OPTIONS {
+        for line in usage_text(Some(*name)).unwrap_or("").lines() {
             assert!(&rt; line.len() <= 100, "{line}");
         }
     }

@@ -3,7 +3,7 @@
 use crate::walls::{DESKS, policy};
 use audit_book::{Entry, Outcome, Rule};
 use book_places::{Due, Found, Owed, Stands, found_in, line_of, put_found};
-use std::alloc::Global;
+use std::alloc::{AllocError, Global};
 use std::process::Abort;
 use std::test::Fail;
 use wall_labels::Label;
@@ -129,22 +129,42 @@ fn is_told(
     Ok(())
 }
 
+// Texts, and what is found of them: but for the last they are no books.
+const NO_BOOKS: &[(&str, &str)] = &[
+    ("book 2\nend 0\n", "line 1: header"),
+    ("book 1\nposts\nend 0\n", "line 2: entry"),
+    (
+        "book 1\npost 0 0 barrier gives 0 as none passed\nend 2\n",
+        "line 3: end, not 2",
+    ),
+    ("book 1\nend 0\nx", "line 3: nothing"),
+    ("book 1\nend 0\nend 0\n", "line 3: nothing"),
+    ("book 1\nend 0", "cut"),
+    ("", "cut"),
+    ("book 1\nend 0\n", "sound 0"),
+];
+
+fn are_told(
+    rt: &(impl AllocGlobal + Abort),
+    policy: &Policy,
+    rows: &[(&str, &str)],
+) -> Result<(), Fail> {
+    for (text, expected) in rows {
+        is_told(rt, policy, text, expected)?;
+    }
+    Ok(())
+}
+
 #[test]
 fn texts_that_are_no_books(rt: HostRuntime) -> Result<(), Fail> {
     let policy = policy(&rt, DESKS);
-    is_told(&rt, &policy, "book 2\nend 0\n", "line 1: header")?;
-    is_told(&rt, &policy, "book 1\nposts\nend 0\n", "line 2: entry")?;
-    let one = "book 1\npost 0 0 barrier gives 0 as none passed\nend 2\n";
-    is_told(&rt, &policy, one, "line 3: end, not 2")?;
-    is_told(&rt, &policy, "book 1\nend 0\nx", "line 3: nothing")?;
-    is_told(&rt, &policy, "book 1\nend 0\nend 0\n", "line 3: nothing")?;
-    is_told(&rt, &policy, "book 1\nend 0", "cut")?;
-    is_told(&rt, &policy, "", "cut")?;
-    is_told(&rt, &policy, "book 1\nend 0\n", "sound 0")
+    let ended = are_told(&rt, &policy, NO_BOOKS);
+    drop(policy);
+    ended
 }
 
 // What stands behind the posts of the broadcast, where that is a fault, and what was due.
-const BEHIND: [(&str, &str); 8] = [
+const BEHIND: &[(&str, &str)] = &[
     ("verdict 0 0 denied simple b0 alpha\nend 5\n", "sound 5"),
     (
         "verdict 0 0 granted\nend 5\n",
@@ -174,7 +194,7 @@ const BEHIND: [(&str, &str); 8] = [
 ];
 
 // Books whose first bad entry is a post, or a verdict that no post settles.
-const ALONE: [(&str, &str); 6] = [
+const ALONE: &[(&str, &str)] = &[
     // the star rule bars what b0 posts as alpha
     (
         "book 2\npost 1 0 bcast 1 int32 2 gives 2 as alpha passed\nend 1\n",
@@ -209,18 +229,28 @@ end 2
     ),
 ];
 
+// The posts of the broadcast, and this behind them.
+fn posts_and(alloc: Global, behind: &str) -> Result<String, AllocError> {
+    let mut text = String::from_str(alloc, POSTS)?;
+    text.push_str(behind)?;
+    Ok(text)
+}
+
+// What is found of those that stand behind the posts, and of those that stand alone.
+fn are_all_told(rt: &(impl AllocGlobal + Abort), policy: &Policy) -> Result<(), Fail> {
+    for (behind, expected) in BEHIND {
+        let text = posts_and(rt.alloc(), behind)?;
+        is_told(rt, policy, text.as_str(), expected)?;
+    }
+    are_told(rt, policy, ALONE)
+}
+
 #[test]
 fn entries_that_the_posts_do_not_give(rt: HostRuntime) -> Result<(), Fail> {
     let policy = policy(&rt, POLICY);
-    for (behind, expected) in BEHIND {
-        let mut text = String::from_str(rt.alloc(), POSTS)?;
-        text.push_str(behind)?;
-        is_told(&rt, &policy, text.as_str(), expected)?;
-    }
-    for (text, expected) in ALONE {
-        is_told(&rt, &policy, text, expected)?;
-    }
-    Ok(())
+    let ended = are_all_told(&rt, &policy);
+    drop(policy);
+    ended
 }
 
 #[test]
@@ -234,7 +264,7 @@ fn lines_by_number(rt: HostRuntime) -> Result<(), Fail> {
 }
 
 // What stands behind the posts of the broadcast, and the line that tells of it.
-const LINES: [(&str, &str); 7] = [
+const LINES: &[(&str, &str)] = &[
     ("verdict 0 0 denied simple b0 alpha\nend 5\n", "sound 5\n"),
     (
         "verdict 0 0 granted\nend 5\n",
@@ -254,7 +284,7 @@ const LINES: [(&str, &str); 7] = [
 ];
 
 // The same of whole texts.
-const WHOLE_LINES: [(&str, &str); 8] = [
+const WHOLE_LINES: &[(&str, &str)] = &[
     ("book 1\nend 0\n", "b.txt:1: due was: book 2\n"),
     (
         "book 2\nend 0\nend 0\n",
@@ -294,16 +324,25 @@ fn is_line(rt: &impl AllocGlobal, policy: &Policy, text: &str, line: &str) -> Re
     Ok(told.as_slice() == line.as_bytes())
 }
 
+fn are_all_lines(rt: &(impl AllocGlobal + Abort), policy: &Policy) -> Result<(), Fail> {
+    for (behind, line) in LINES {
+        let text = posts_and(rt.alloc(), behind)?;
+        assert!(rt; is_line(rt, policy, text.as_str(), line)?, "of {behind}");
+    }
+    are_lines_of_texts(rt, policy)
+}
+
+fn are_lines_of_texts(rt: &(impl AllocGlobal + Abort), policy: &Policy) -> Result<(), Fail> {
+    for (text, line) in WHOLE_LINES {
+        assert!(rt; is_line(rt, policy, text, line)?, "of {text}");
+    }
+    Ok(())
+}
+
 #[test]
 fn lines_that_tell_it(rt: HostRuntime) -> Result<(), Fail> {
     let policy = policy(&rt, POLICY);
-    for (behind, line) in LINES {
-        let mut text = String::from_str(rt.alloc(), POSTS)?;
-        text.push_str(behind)?;
-        assert!(&rt; is_line(&rt, &policy, text.as_str(), line)?, "of {behind}");
-    }
-    for (text, line) in WHOLE_LINES {
-        assert!(&rt; is_line(&rt, &policy, text, line)?, "of {text}");
-    }
-    Ok(())
+    let ended = are_all_lines(&rt, &policy);
+    drop(policy);
+    ended
 }

@@ -9,6 +9,7 @@ use policy_meaning::{Doubt, Warning, are_kept_apart, asked, most_labels, warns};
 use std::process::Abort;
 use std::test::Fail;
 use wall_labels::{DatasetId, Op, ProcessId};
+use wall_policy::Policy;
 
 // The lines of a policy's meaning are these, and none has more than 100 columns.
 fn says(rt: &(impl AllocGlobal + Abort), wall: &str, expected: &str) -> Result<(), Fail> {
@@ -207,45 +208,62 @@ left-left-left-left-left-left-32 and right-right-right-right-right-32 never hold
     )
 }
 
-#[test]
-fn who_is_kept_apart(rt: HostRuntime) -> Result<(), Fail> {
-    let policy = policy(&rt, FOUR_BANKS);
+fn expect_apart(rt: &impl Abort, policy: &Policy) {
     let a0 = ProcessId::new(0).unwrap();
     let b0 = ProcessId::new(1).unwrap();
     let n0 = ProcessId::new(4).unwrap();
     let nobody = ProcessId::new(5).unwrap();
-    assert!(&rt; are_kept_apart(&policy, a0, b0));
-    assert!(&rt; are_kept_apart(&policy, b0, a0));
-    assert!(&rt; !are_kept_apart(&policy, a0, a0));
-    assert!(&rt; !are_kept_apart(&policy, a0, n0));
-    assert!(&rt; !are_kept_apart(&policy, a0, nobody));
+    assert!(rt; are_kept_apart(policy, a0, b0));
+    assert!(rt; are_kept_apart(policy, b0, a0));
+    assert!(rt; !are_kept_apart(policy, a0, a0));
+    assert!(rt; !are_kept_apart(policy, a0, n0));
+    assert!(rt; !are_kept_apart(policy, a0, nobody));
+}
+
+#[test]
+fn who_is_kept_apart(rt: HostRuntime) -> Result<(), Fail> {
+    let policy = policy(&rt, FOUR_BANKS);
+    expect_apart(&rt, &policy);
+    drop(policy);
     Ok(())
 }
 
 // The datasets of one class with a process each, and those of which one alone has a process.
 #[test]
 fn how_many_datasets_labels_name(rt: HostRuntime) -> Result<(), Fail> {
-    assert_eq!(&rt; most_labels(&policy(&rt, DOUBTFUL)), 2);
-    assert_eq!(&rt; most_labels(&policy(&rt, FOUR_BANKS)), 4);
-    assert_eq!(&rt; most_labels(&policy(&rt, DESKS)), 2);
+    assert_eq!(&rt; most_labels_of(&rt, DOUBTFUL), 2);
+    assert_eq!(&rt; most_labels_of(&rt, FOUR_BANKS), 4);
+    assert_eq!(&rt; most_labels_of(&rt, DESKS), 2);
     Ok(())
+}
+
+fn most_labels_of(rt: &(impl AllocGlobal + Abort), wall: &str) -> u32 {
+    let policy = policy(rt, wall);
+    let most = most_labels(&policy);
+    drop(policy);
+    most
 }
 
 // Two, a figure of each class that gives some, and one for each process without a home.
 #[test]
 fn how_many_datasets_a_sum_should_take(rt: HostRuntime) -> Result<(), Fail> {
-    assert_eq!(&rt; asked(&policy(&rt, DOUBTFUL)), 4);
-    assert_eq!(&rt; asked(&policy(&rt, FOUR_BANKS)), 4);
-    assert_eq!(&rt; asked(&policy(&rt, BANKS_AND_INSURER)), 4);
-    assert_eq!(&rt; asked(&policy(&rt, CONSULTANTS)), 5);
-    assert_eq!(&rt; asked(&policy(&rt, DESKS)), 3);
+    assert_eq!(&rt; asked_of(&rt, DOUBTFUL), 4);
+    assert_eq!(&rt; asked_of(&rt, FOUR_BANKS), 4);
+    assert_eq!(&rt; asked_of(&rt, BANKS_AND_INSURER), 4);
+    assert_eq!(&rt; asked_of(&rt, CONSULTANTS), 5);
+    assert_eq!(&rt; asked_of(&rt, DESKS), 3);
     Ok(())
 }
 
+fn asked_of(rt: &(impl AllocGlobal + Abort), wall: &str) -> u32 {
+    let policy = policy(rt, wall);
+    let number = asked(&policy);
+    drop(policy);
+    number
+}
+
 // One question of each kind, and some that are of no dataset and no process of the policy.
-#[test]
-fn which_warnings_are_due(rt: HostRuntime) -> Result<(), Fail> {
-    let policy = policy(&rt, DOUBTFUL);
+fn expect_warnings(rt: &impl Abort, policy: &Policy) {
     let few_datasets = Warning::OfOperation {
         op: Op::Sum,
         doubt: Doubt::TooFewDatasets,
@@ -254,18 +272,25 @@ fn which_warnings_are_due(rt: HostRuntime) -> Result<(), Fail> {
         op: Op::Max,
         doubt: Doubt::TellsOneFigure,
     };
-    assert!(&rt; !warns(&policy, &Warning::NothingSanitised));
-    assert!(&rt; warns(&policy, &few_datasets));
-    assert!(&rt; !warns(&policy, &of_no_rule));
+    assert!(rt; !warns(policy, &Warning::NothingSanitised));
+    assert!(rt; warns(policy, &few_datasets));
+    assert!(rt; !warns(policy, &of_no_rule));
     let dataset = DatasetId::new(3).unwrap();
     let process = ProcessId::new(1).unwrap();
-    assert!(&rt; warns(&policy, &Warning::NoRival { dataset }));
-    assert!(&rt; warns(&policy, &Warning::NobodysHome { dataset }));
-    assert!(&rt; warns(&policy, &Warning::AnyLabel { process }));
+    assert!(rt; warns(policy, &Warning::NoRival { dataset }));
+    assert!(rt; warns(policy, &Warning::NobodysHome { dataset }));
+    assert!(rt; warns(policy, &Warning::AnyLabel { process }));
     let dataset = DatasetId::new(4).unwrap();
     let process = ProcessId::new(2).unwrap();
-    assert!(&rt; !warns(&policy, &Warning::NoRival { dataset }));
-    assert!(&rt; !warns(&policy, &Warning::NobodysHome { dataset }));
-    assert!(&rt; !warns(&policy, &Warning::AnyLabel { process }));
+    assert!(rt; !warns(policy, &Warning::NoRival { dataset }));
+    assert!(rt; !warns(policy, &Warning::NobodysHome { dataset }));
+    assert!(rt; !warns(policy, &Warning::AnyLabel { process }));
+}
+
+#[test]
+fn which_warnings_are_due(rt: HostRuntime) -> Result<(), Fail> {
+    let policy = policy(&rt, DOUBTFUL);
+    expect_warnings(&rt, &policy);
+    drop(policy);
     Ok(())
 }

@@ -43,6 +43,19 @@ fn is_shown(
     }
 }
 
+// The same under the policy of a text.
+fn is_shown_under(
+    rt: &(impl AllocGlobal + Abort),
+    wall: &str,
+    book: &str,
+    expected: &str,
+) -> Result<(), Fail> {
+    let policy = policy(rt, wall);
+    let ended = is_shown(rt, &policy, book, expected);
+    drop(policy);
+    ended
+}
+
 fn is_page(rt: &(impl AllocGlobal + Abort), page: &[u8], expected: &str) -> Result<(), Fail> {
     assert!(rt; page.starts_with(FIRST.as_bytes()));
     let styles = page.len().saturating_sub(expected.len());
@@ -66,10 +79,9 @@ fn has(text: &[u8], word: &[u8]) -> bool {
 
 #[test]
 fn consultants(rt: HostRuntime) -> Result<(), Fail> {
-    let policy = policy(&rt, CONSULTANTS);
-    is_shown(
+    is_shown_under(
         &rt,
-        &policy,
+        CONSULTANTS,
         OF_CONSULTANTS,
         "\
 <h1>What a book tells</h1>
@@ -153,10 +165,9 @@ The tables tell in words what it shows.\" preserveAspectRatio=none viewBox=\"0 0
 
 #[test]
 fn two_rivals_at_once(rt: HostRuntime) -> Result<(), Fail> {
-    let policy = policy(&rt, FOUR_BANKS);
-    is_shown(
+    is_shown_under(
         &rt,
-        &policy,
+        FOUR_BANKS,
         OF_FOUR_BANKS,
         "\
 <h1>What a book tells</h1>
@@ -232,14 +243,17 @@ The tables tell in words what it shows.\" preserveAspectRatio=none viewBox=\"0 0
 fn unsound_books(rt: HostRuntime) -> Result<(), Fail> {
     let policy = policy(&rt, FOUR_BANKS);
     let book = "book 2\npost 0 0 bcast 0 int32 1 gives 1 as alpha barred\nend 1\n";
-    match page_of(&rt, &policy, book) {
+    let of_barred = page_of(&rt, &policy, book);
+    let of_empty = page_of(&rt, &policy, "book 2\nend 0\n");
+    drop(policy);
+    match of_barred {
         Ok(page) => {
             drop(page);
             panic!(&rt; "the book has a page")
         }
         Err(fault) => assert!(&rt; fault == BookFault::BadEntry(1)),
     }
-    match page_of(&rt, &policy, "book 2\nend 0\n") {
+    match of_empty {
         Ok(page) => {
             assert!(&rt; has(&page, b"viewBox=\"0 0 1 5\" height=5em>\n"));
             Ok(())

@@ -8,7 +8,7 @@ use std::test::Fail;
 use wall_policy::Policy;
 
 // Each line has this fault in this column.
-const LINES: [(&str, u64, LineFault); 20] = [
+const LINES: &[(&str, u64, LineFault)] = &[
     ("took 0 1", 1, LineFault::BadVerb),
     ("take 0", 7, LineFault::BadShape),
     ("take 0 1 x", 10, LineFault::BadShape),
@@ -65,25 +65,30 @@ fn tells(
     Ok(())
 }
 
-#[test]
-fn each_fault_has_its_column(rt: HostRuntime) -> Result<(), Fail> {
-    let policy = policy(&rt, DESKS);
+// Each line, as a script by itself.
+fn tells_each(rt: &(impl AllocGlobal + Abort), policy: &Policy) -> Result<(), Fail> {
     for (line, column, fault) in LINES {
         let found = Found {
             line: 1,
-            column,
-            fault,
+            column: *column,
+            fault: *fault,
         };
-        tells(&rt, &policy, line, &[found])?;
+        tells(rt, policy, line, &[found])?;
     }
     Ok(())
 }
 
+#[test]
+fn each_fault_has_its_column(rt: HostRuntime) -> Result<(), Fail> {
+    let policy = policy(&rt, DESKS);
+    let ended = tells_each(&rt, &policy);
+    drop(policy);
+    ended
+}
+
 // Comments and empty lines count, and have no fault; nor has a call, but for one of a process that
 // the policy lacks, at its process. Of two CR before a LF the first is a byte that is not printable.
-#[test]
-fn all_faults_of_a_script(rt: HostRuntime) -> Result<(), Fail> {
-    let policy = policy(&rt, DESKS);
+fn tells_all(rt: &(impl AllocGlobal + Abort), policy: &Policy) -> Result<(), Fail> {
     let script = "# two faults\r\n\ntake 0 1\ntake 0\r\ninfo 7 0\npost 0 0 barrier\npst 0 0\n";
     let found = [
         Found {
@@ -102,12 +107,20 @@ fn all_faults_of_a_script(rt: HostRuntime) -> Result<(), Fail> {
             fault: LineFault::BadVerb,
         },
     ];
-    tells(&rt, &policy, script, &found)?;
-    tells(&rt, &policy, "", &[])?;
+    tells(rt, policy, script, &found)?;
+    tells(rt, policy, "", &[])?;
     let carriage_return = Found {
         line: 1,
         column: 9,
         fault: LineFault::BadShape,
     };
-    tells(&rt, &policy, "take 0 1\r\r\n", &[carriage_return])
+    tells(rt, policy, "take 0 1\r\r\n", &[carriage_return])
+}
+
+#[test]
+fn all_faults_of_a_script(rt: HostRuntime) -> Result<(), Fail> {
+    let policy = policy(&rt, DESKS);
+    let ended = tells_all(&rt, &policy);
+    drop(policy);
+    ended
 }

@@ -123,6 +123,19 @@ fn is_told(
     }
 }
 
+// The same under the policy of a text.
+fn is_told_under(
+    rt: &(impl AllocGlobal + Abort),
+    wall: &str,
+    book: &str,
+    expected: &str,
+) -> Result<(), Fail> {
+    let policy = policy(rt, wall);
+    let ended = is_told(rt, &policy, book, expected);
+    drop(policy);
+    ended
+}
+
 // Reads the book of a run: what it gave.
 fn is_given(
     rt: &(impl AllocGlobal + Abort),
@@ -142,6 +155,20 @@ fn is_given(
         }
         Err(_) => panic!(rt; "the book is not read"),
     }
+}
+
+// The same under the policy of a text.
+fn is_given_under(
+    rt: &(impl AllocGlobal + Abort),
+    wall: &str,
+    book: &str,
+    run: u64,
+    expected: &str,
+) -> Result<(), Fail> {
+    let policy = policy(rt, wall);
+    let ended = is_given(rt, &policy, book, run, expected);
+    drop(policy);
+    ended
 }
 
 // The text is this one, and no line of it has more than 100 columns.
@@ -179,10 +206,9 @@ fn fault_of(rt: &(impl AllocGlobal + Abort), policy: &Policy, book: &str) -> Opt
 
 #[test]
 fn consultants(rt: HostRuntime) -> Result<(), Fail> {
-    let policy = policy(&rt, CONSULTANTS);
-    is_told(
+    is_told_under(
         &rt,
-        &policy,
+        CONSULTANTS,
         OF_CONSULTANTS,
         "who holds what, and by which entry:
 0: a0 holds alpha: its home
@@ -232,10 +258,9 @@ instance 1 1 was denied: entry 25 was barred; consultant may not post under alph
 
 #[test]
 fn long_names(rt: HostRuntime) -> Result<(), Fail> {
-    let policy = policy(&rt, LONG);
-    is_told(
+    is_told_under(
         &rt,
-        &policy,
+        LONG,
         OF_LONG,
         "who holds what, and by which entry:
 0: left-left-left-left-left-left-32 holds alpha-alpha-alpha-alpha-alpha-32: its home
@@ -277,10 +302,9 @@ instance 0 2 was denied:
 
 #[test]
 fn two_rivals_with_long_names(rt: HostRuntime) -> Result<(), Fail> {
-    let policy = policy(&rt, LONG);
-    is_told(
+    is_told_under(
         &rt,
-        &policy,
+        LONG,
         OF_LONG_RIVALS,
         "who holds what, and by which entry:
 0: left-left-left-left-left-left-32 holds alpha-alpha-alpha-alpha-alpha-32: its home
@@ -310,10 +334,9 @@ instance 0 0 was denied:
 
 #[test]
 fn two_rivals_at_once(rt: HostRuntime) -> Result<(), Fail> {
-    let policy = policy(&rt, FOUR_BANKS);
-    is_told(
+    is_told_under(
         &rt,
-        &policy,
+        FOUR_BANKS,
         OF_FOUR_BANKS,
         "who holds what, and by which entry:
 0: a0 holds alpha: its home
@@ -353,10 +376,9 @@ instance 0 0 was denied: n0 would get two rivals: alpha from a0 by entry 2, beta
 // Sanitised results charge nothing: n0 holds nothing at the end.
 #[test]
 fn sums_of_four_banks(rt: HostRuntime) -> Result<(), Fail> {
-    let policy = policy(&rt, FOUR_BANKS);
-    is_told(
+    is_told_under(
         &rt,
-        &policy,
+        FOUR_BANKS,
         OF_SUMS,
         "who holds what, and by which entry:
 0: a0 holds alpha: its home
@@ -393,24 +415,21 @@ why instances were denied:
 // What a run gave, as a report on a later one tells it.
 #[test]
 fn given_by_earlier_runs(rt: HostRuntime) -> Result<(), Fail> {
-    let consultants = policy(&rt, CONSULTANTS);
-    is_given(
+    is_given_under(
         &rt,
-        &consultants,
+        CONSULTANTS,
         OF_CONSULTANTS,
         12,
         "run 12, entry 17: consultant holds alpha: bcast 1 0 from a0
 run 12, entry 23: consultant holds crude: bcast 3 0 from c0
 ",
     )?;
-    let banks = policy(&rt, FOUR_BANKS);
     let told = "run 1, entry 7: n0 holds alpha: own post\n";
-    is_given(&rt, &banks, OF_FOUR_BANKS, 1, told)?;
-    is_given(&rt, &banks, "book 2\nend 0\n", 1, "")?;
-    let long = policy(&rt, LONG);
-    is_given(
+    is_given_under(&rt, FOUR_BANKS, OF_FOUR_BANKS, 1, told)?;
+    is_given_under(&rt, FOUR_BANKS, "book 2\nend 0\n", 1, "")?;
+    is_given_under(
         &rt,
-        &long,
+        LONG,
         OF_LONG,
         9999999,
         "run 9999999, entry 6: third-third-third-third-third-32 holds alpha-alpha-alpha-alpha-alpha-32:
@@ -419,26 +438,37 @@ run 12, entry 23: consultant holds crude: bcast 3 0 from c0
     )
 }
 
-// What an earlier book gave is held before, and no later run gives it.
-#[test]
-fn held_before(rt: HostRuntime) -> Result<(), Fail> {
-    let first = policy(&rt, FOUR_BANKS);
-    let earlier = "book 2\npost 4 0 bcast 4 int32 1 gives 1 as gamma passed\nend 1\n";
-    let after = match read_book(rt.alloc(), &first, earlier.as_bytes()) {
+// The policy after a book.
+fn after(rt: &(impl AllocGlobal + Abort), policy: Policy, text: &str) -> Policy {
+    let after = match read_book(rt.alloc(), &policy, text.as_bytes()) {
         Ok(book) => {
-            let after = after_book(rt.alloc(), first, &book);
+            let after = after_book(rt.alloc(), policy, &book);
             drop(book);
             after
         }
-        Err(_) => panic!(&rt; "the book is not read"),
+        Err(_) => panic!(rt; "the book is not read"),
     };
-    let Ok(policy) = after else {
-        panic!(&rt; "the book is not sound")
-    };
-    is_given(&rt, &policy, "book 2\nend 0\n", 2, "")?;
+    match after {
+        Ok(policy) => policy,
+        Err(_) => panic!(rt; "the book is not sound"),
+    }
+}
+
+// What an earlier book gave is held before, and no later run gives it.
+#[test]
+fn held_before(rt: HostRuntime) -> Result<(), Fail> {
+    let earlier = "book 2\npost 4 0 bcast 4 int32 1 gives 1 as gamma passed\nend 1\n";
+    let policy = after(&rt, policy(&rt, FOUR_BANKS), earlier);
+    let ended = is_held_before(&rt, &policy);
+    drop(policy);
+    ended
+}
+
+fn is_held_before(rt: &(impl AllocGlobal + Abort), policy: &Policy) -> Result<(), Fail> {
+    is_given(rt, policy, "book 2\nend 0\n", 2, "")?;
     is_told(
-        &rt,
-        &policy,
+        rt,
+        policy,
         "book 2\nend 0\n",
         "who holds what, and by which entry:
 0: a0 holds alpha: its home
@@ -470,7 +500,10 @@ why instances were denied:
 fn unsound_books(rt: HostRuntime) -> Result<(), Fail> {
     let policy = policy(&rt, FOUR_BANKS);
     let book = "book 2\npost 0 0 bcast 0 int32 1 gives 1 as alpha barred\nend 1\n";
-    assert!(&rt; fault_of(&rt, &policy, book) == Some(BookFault::BadEntry(1)));
-    assert!(&rt; fault_of(&rt, &policy, "book 2\nend 0\n") == None);
+    let of_barred = fault_of(&rt, &policy, book);
+    let of_empty = fault_of(&rt, &policy, "book 2\nend 0\n");
+    drop(policy);
+    assert!(&rt; of_barred == Some(BookFault::BadEntry(1)));
+    assert!(&rt; of_empty == None);
     Ok(())
 }

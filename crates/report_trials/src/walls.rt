@@ -1,4 +1,7 @@
 //! The policies of the tests: worked ones of `docs/policies`, and some at which warnings are due.
+//!
+//! Who has read a policy hands it to `drop`, before each way out: where it goes out of scope by itself
+//! it is taken apart in the function's own proof, which costs half a minute each time.
 
 use std::process::Abort;
 use wall_policy::{Policy, read_policy};

@@ -189,6 +189,7 @@ fn runs_are_written(rt: HostRuntime) {
     assert!(rt; again.err() == Some(EnterFault::OutOfOrder));
     assert!(rt; file.end_run(rt.alloc(), [0; 32]).is_ok());
     assert!(rt; file.end_run(rt.alloc(), [0; 32]).err() == Some(EnterFault::OutOfOrder));
+    drop(file);
 }
 
 #[test]

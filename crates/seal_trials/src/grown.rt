@@ -112,7 +112,11 @@ fn with_text(
 fn after_all(rt: &(impl AllocGlobal + Abort), texts: &[&str]) -> Result<Policy, BookFault> {
     let mut chain = Chain::begin(wall(rt));
     for text in texts {
-        chain = with_text(rt, chain, text)?;
+        // (a `?` writes the type of what has a policy out many times)
+        chain = match with_text(rt, chain, text) {
+            Ok(longer) => longer,
+            Err(fault) => return Err(fault),
+        };
     }
     Ok(chain.policy())
 }
@@ -185,6 +189,7 @@ fn all_processes_stand_behind_the_books(rt: HostRuntime) {
             assert!(rt; policy.processes() == 4);
             assert!(rt; held(&policy, 2, 0) && !held(&policy, 2, 1) && !held(&policy, 3, 0));
             assert!(rt; held(&policy, 0, 0) && held(&policy, 1, 1) && !held(&policy, 1, 0));
+            drop(policy);
         }
         Err(_) => panic!(rt; "a book is not sound"),
     }

@@ -1,10 +1,14 @@
 //! The runs of a chain, read again from the files at their paths.
+//!
+//! What has a policy, as what comes after runs, and a chain file are handed to `drop`: where one goes
+//! out of scope by itself it is taken apart in the function's own proof, half a minute for each way
+//! out.
 use crate::days::{ALPHA_TO_N0, BETA_NOT_TO_N0, DAY_ONE, DAY_TWO};
 use book_stream::AuditFault;
-use chain_file::{ChainFile, EnterFault, Path};
+use chain_file::{ChainFile, EnterFault, Path, Run};
 use chain_runs::{
-    Broken, EndFault, FileSystem, Past, RunFault, end_run, read_begun, read_behind, read_next,
-    read_runs,
+    Broken, EndFault, FileSystem, Next, Past, RunFault, end_run, read_begun, read_behind,
+    read_next, read_runs,
 };
 use sha2::{Digest, Sha256};
 use std::process::Abort;
@@ -94,24 +98,40 @@ fn both_days<'a>() -> Shelf<'a> {
     }
 }
 
-fn past(rt: &(impl AllocGlobal + Abort), shelf: &Shelf) -> Past {
-    let file = two_runs(rt);
-    match read_runs(rt.alloc(), shelf, file.ended()) {
+fn stood(rt: &impl Abort, read: Result<Past, Broken>) -> Past {
+    match read {
         Ok(past) => past,
         Err(_) => panic!(rt; "a run does not stand"),
     }
 }
 
-// The number of the first run that does not stand, and why.
-fn fault(rt: &(impl AllocGlobal + Abort), shelf: &Shelf) -> Option<(u64, RunFault)> {
+fn past(rt: &(impl AllocGlobal + Abort), shelf: &Shelf) -> Past {
     let file = two_runs(rt);
-    match read_runs(rt.alloc(), shelf, file.ended()) {
+    let read = read_runs(rt.alloc(), shelf, file.ended());
+    drop(file);
+    stood(rt, read)
+}
+
+// The number of the first run that does not stand, and why.
+fn broken(read: Result<Past, Broken>) -> Option<(u64, RunFault)> {
+    match read {
         Ok(past) => {
             drop(past);
             None
         }
-        Err(broken) => Some((broken.number, broken.fault)),
+        Err(broken) => {
+            let found = (broken.number, broken.fault);
+            drop(broken);
+            Some(found)
+        }
     }
+}
+
+fn fault(rt: &(impl AllocGlobal + Abort), shelf: &Shelf) -> Option<(u64, RunFault)> {
+    let file = two_runs(rt);
+    let read = read_runs(rt.alloc(), shelf, file.ended());
+    drop(file);
+    broken(read)
 }
 
 /// Both runs stand, the second behind the first: its file numbers the datasets otherwise, and its
@@ -120,10 +140,17 @@ fn fault(rt: &(impl AllocGlobal + Abort), shelf: &Shelf) -> Option<(u64, RunFaul
 fn runs_stand_behind_one_another(rt: HostRuntime) {
     let past = past(&rt, &both_days());
     assert!(&rt; past.entries == 10);
-    let policy = past.policy.as_ref().expect(&rt, "two runs have a policy");
+    match &past.policy {
+        Some(policy) => expect_held(&rt, policy),
+        None => panic!(&rt; "two runs have a policy"),
+    }
+    drop(past);
+}
+
+fn expect_held(rt: &impl Abort, policy: &Policy) {
     let pair = (ProcessId::new(1), DatasetId::new(0));
-    assert!(&rt; policy.dataset_named("alpha") == DatasetId::new(0));
-    assert!(&rt;
+    assert!(rt; policy.dataset_named("alpha") == DatasetId::new(0));
+    assert!(rt;
         policy
             .held()
             .iter()
@@ -141,12 +168,20 @@ fn runs_are_read_one_by_one(rt: HostRuntime) {
         entries: 0,
     };
     for run in file.ended() {
-        past = match read_behind(rt.alloc(), &shelf, &past, run) {
-            Ok(past) => past,
-            Err(_) => panic!(&rt; "a run does not stand"),
-        };
+        let next = behind(&rt, &shelf, &past, run);
+        drop(past);
+        past = next;
     }
     assert!(&rt; past.entries == 10);
+    drop(past);
+    drop(file);
+}
+
+fn behind(rt: &(impl AllocGlobal + Abort), shelf: &Shelf, past: &Past, run: &Run) -> Past {
+    match read_behind(rt.alloc(), shelf, past, run) {
+        Ok(past) => past,
+        Err(_) => panic!(rt; "a run does not stand"),
+    }
 }
 
 // How the run that is under way ends by this book, if not well.
@@ -170,54 +205,69 @@ fn ending(
 /// twice.
 #[test]
 fn a_run_begins_and_ends(rt: HostRuntime) {
-    let alloc = rt.alloc();
-    let mut file = ChainFile::new(alloc);
+    let mut file = ChainFile::new(rt.alloc());
     enter(
         &rt,
         &mut file,
         [b"1.toml", b"1.book"],
         [DAY_ONE, ALPHA_TO_N0],
     );
-    let shelf = both_days();
-    let past = match read_runs(alloc, &shelf, file.ended()) {
-        Ok(past) => past,
-        Err(_) => panic!(&rt; "the first run does not stand"),
-    };
-    let next = match read_next(alloc, past.policy.as_ref(), &mut whole(DAY_TWO.as_bytes())) {
+    let past = stood(&rt, read_runs(rt.alloc(), &both_days(), file.ended()));
+    let next = next(&rt, &past);
+    begin_and_end(&rt, &mut file, &past, &next);
+    drop(next);
+    drop(past);
+    let both = two_runs(&rt);
+    assert!(&rt; file.head() == both.head());
+    drop(both);
+    drop(file);
+}
+
+// What the run that comes next is under, on the second day.
+fn next(rt: &(impl AllocGlobal + Abort), past: &Past) -> Next {
+    let mut policy = whole(DAY_TWO.as_bytes());
+    match read_next(rt.alloc(), past.policy.as_ref(), &mut policy) {
         Ok(next) => next,
-        Err(_) => panic!(&rt; "the next run has no policy"),
-    };
-    assert!(&rt; next.digest == Sha256::digest(DAY_TWO.as_bytes()));
+        Err(_) => panic!(rt; "the next run has no policy"),
+    }
+}
+
+// It is not ended before it has begun, nor by a book that is cut, nor twice.
+fn begin_and_end(rt: &(impl AllocGlobal + Abort), file: &mut ChainFile, past: &Past, next: &Next) {
+    assert!(rt; next.digest == Sha256::digest(DAY_TWO.as_bytes()));
     let order = Some(EndFault::Refused(EnterFault::OutOfOrder));
-    assert!(&rt; ending(&rt, &next.policy, BETA_NOT_TO_N0, &mut file) == order);
-    let begun = file.begin_run(
-        alloc,
-        path(&rt, b"2.toml"),
-        next.digest,
-        path(&rt, b"2.book"),
-    );
-    assert!(&rt; begun.is_ok());
+    assert!(rt; ending(rt, &next.policy, BETA_NOT_TO_N0, file) == order);
+    begin_second(rt, file, next.digest);
     let cut = &BETA_NOT_TO_N0[..BETA_NOT_TO_N0.len() - 1];
     let fault = Some(EndFault::BadBook(AuditFault::Cut));
-    assert!(&rt; ending(&rt, &next.policy, cut, &mut file) == fault);
-    let begun = file.under_way().expect(&rt, "it has not ended");
-    let policy = read_begun(
-        alloc,
-        past.policy.as_ref(),
-        begun,
-        &mut whole(DAY_TWO.as_bytes()),
-    );
-    assert!(&rt; policy.is_ok());
-    let other = read_begun(
-        alloc,
-        past.policy.as_ref(),
-        begun,
-        &mut whole(DAY_ONE.as_bytes()),
-    );
-    assert!(&rt; other.err() == Some(RunFault::OtherPolicy));
-    assert!(&rt; ending(&rt, &next.policy, BETA_NOT_TO_N0, &mut file).is_none());
-    assert!(&rt; file.head() == two_runs(&rt).head());
-    assert!(&rt; ending(&rt, &next.policy, BETA_NOT_TO_N0, &mut file) == order);
+    assert!(rt; ending(rt, &next.policy, cut, file) == fault);
+    assert!(rt; begun_under(rt, file, past, DAY_TWO).is_none());
+    assert!(rt; begun_under(rt, file, past, DAY_ONE) == Some(RunFault::OtherPolicy));
+    assert!(rt; ending(rt, &next.policy, BETA_NOT_TO_N0, file).is_none());
+    assert!(rt; ending(rt, &next.policy, BETA_NOT_TO_N0, file) == order);
+}
+
+fn begin_second(rt: &(impl AllocGlobal + Abort), file: &mut ChainFile, digest: [u8; 32]) {
+    let begun = file.begin_run(rt.alloc(), path(rt, b"2.toml"), digest, path(rt, b"2.book"));
+    assert!(rt; begun.is_ok());
+}
+
+// Why this is not the policy file that the run under way has begun with, none where it is.
+fn begun_under(
+    rt: &(impl AllocGlobal + Abort),
+    file: &ChainFile,
+    past: &Past,
+    text: &str,
+) -> Option<RunFault> {
+    let begun = file.under_way().expect(rt, "it has not ended");
+    let mut policy = whole(text.as_bytes());
+    match read_begun(rt.alloc(), past.policy.as_ref(), begun, &mut policy) {
+        Ok(policy) => {
+            drop(policy);
+            None
+        }
+        Err(fault) => Some(fault),
+    }
 }
 
 /// A byte of a file of either day, where it is another, is told at its run.
@@ -340,13 +390,7 @@ fn runs_that_do_not_stand_are_told(rt: HostRuntime) {
 }
 
 fn told(rt: &(impl AllocGlobal + Abort), file: &ChainFile) -> Option<(u64, RunFault)> {
-    match read_runs(rt.alloc(), &both_days(), file.ended()) {
-        Ok(past) => {
-            drop(past);
-            None
-        }
-        Err(broken) => Some((broken.number, broken.fault)),
-    }
+    broken(read_runs(rt.alloc(), &both_days(), file.ended()))
 }
 
 // A book of two processes, in which none of the rivals' data is given.
@@ -380,9 +424,18 @@ fn policies_that_shrink_are_told(rt: HostRuntime) {
         Err(broken) => {
             assert!(&rt; broken.number == 2);
             assert!(&rt; is_of_third(broken.fault));
-            let after = broken.after.as_ref().expect(&rt, "there was a run before");
-            assert!(&rt; after.processes() == 3);
+            assert!(&rt; processes_after(&broken) == Some(3));
+            drop(broken);
         }
+    }
+    drop(file);
+}
+
+// How many processes the policy has by which its fault counts.
+fn processes_after(broken: &Broken) -> Option<u32> {
+    match &broken.after {
+        Some(policy) => Some(policy.processes()),
+        None => None,
     }
 }
 

@@ -265,6 +265,8 @@ const LONG: &[(&str, &str)] = &[
     ("post 0 0 cart_create - ", " gives 0 as none passed"),
 ];
 
+const LENGTHS: &[u32] = &[256, 1000];
+
 // Lines of up to a few thousand bytes: lists of as many numbers as there can be members, and more.
 #[test]
 fn long_lines_are_read_and_written(rt: HostRuntime) -> Result<(), Fail> {
@@ -273,8 +275,8 @@ fn long_lines_are_read_and_written(rt: HostRuntime) -> Result<(), Fail> {
 
 fn long_lines(rt: &(impl AllocGlobal + Abort), policy: &Policy) -> Result<(), Fail> {
     for (prefix, rest) in LONG {
-        for numbers in [256, 1000] {
-            let list = listing(rt.alloc(), prefix, numbers, 1)?;
+        for numbers in LENGTHS {
+            let list = listing(rt.alloc(), prefix, *numbers, 1)?;
             let text = format!(in rt.alloc(); "book 1\n{list}{rest}\nend 1\n")?;
             assert!(rt; is_whole(rt.alloc(), policy, text.as_bytes()), "{prefix}");
         }

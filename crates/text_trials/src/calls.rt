@@ -170,6 +170,7 @@ fn posted(
         })),
         Err(fault) => {
             drop(sig);
+            drop(own);
             Err(Fail::from(fault))
         }
     }
@@ -491,7 +492,8 @@ pub(crate) fn answers(alloc: Global, hall: &mut Hall, line: &Line) -> Result<boo
     }
 }
 
-fn answers_all(alloc: Global, hall: &mut Hall, lines: &[Line]) -> Result<bool, Fail> {
+/// Whether it answers each line's call so, in their order.
+pub(crate) fn answers_all(alloc: Global, hall: &mut Hall, lines: &[Line]) -> Result<bool, Fail> {
     for line in lines {
         if !answers(alloc, hall, line)? {
             return Ok(false);

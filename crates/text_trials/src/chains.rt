@@ -1,4 +1,6 @@
 //! Books that are checked, and scripts that are replayed, under the policy that earlier books gave.
+//!
+//! A `match` in place of a `?` on what has a policy: the `?` writes the whole type out many times.
 
 use crate::replays::{Case, is_replayed_under};
 use crate::scripts::policy_of;
@@ -111,7 +113,10 @@ fn after_text(
 fn after_all(rt: &(impl AllocGlobal + Abort), texts: &[&str]) -> Result<Policy, BookFault> {
     let mut policy = policy_of(rt, BANKS_AND_CONSULTANTS);
     for text in texts {
-        policy = after_text(rt, policy, text)?;
+        policy = match after_text(rt, policy, text) {
+            Ok(after) => after,
+            Err(fault) => return Err(fault),
+        };
     }
     Ok(policy)
 }
@@ -133,10 +138,14 @@ fn judged_after(
     earlier: &[&str],
     text: &str,
 ) -> Result<(), BookFault> {
-    let policy = after_all(rt, earlier)?;
-    let answer = judged(rt, &policy, text);
-    drop(policy);
-    answer
+    match after_all(rt, earlier) {
+        Ok(policy) => {
+            let answer = judged(rt, &policy, text);
+            drop(policy);
+            answer
+        }
+        Err(fault) => Err(fault),
+    }
 }
 
 // A verdict that is not what the posts give, at the end.

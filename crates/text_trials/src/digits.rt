@@ -24,7 +24,7 @@ struct Type {
     ends: &'static [&'static str],
 }
 
-const TYPES: [Type; 9] = [
+const TYPES: &[Type] = &[
     Type {
         name: "int8",
         per_element: 1,
@@ -126,10 +126,10 @@ const TYPES: [Type; 9] = [
 ];
 
 // So many elements are posted at a time.
-const COUNTS: [u64; 12] = [1, 2, 3, 7, 8, 9, 31, 32, 33, 64, 65, 257];
+const COUNTS: &[u64] = &[1, 2, 3, 7, 8, 9, 31, 32, 33, 64, 65, 257];
 
 // Words that are no numbers of their type.
-const NO_NUMBERS: [(&str, &str); 26] = [
+const NO_NUMBERS: &[(&str, &str)] = &[
     ("int8", "128"),
     ("int8", "-129"),
     ("uint8", "256"),
@@ -160,7 +160,7 @@ const NO_NUMBERS: [(&str, &str); 26] = [
 
 // Words of 8 bytes, 16, 17 and 20, each the number of a type, which lose a byte to one that is no
 // digit.
-const WHOLE: [(&str, &str); 5] = [
+const WHOLE: &[(&str, &str)] = &[
     ("int32", "12345678"),
     ("int64", "1234567890123456"),
     ("uint64", "12345678901234567"),
@@ -168,7 +168,7 @@ const WHOLE: [(&str, &str); 5] = [
     ("int64", "-1234567890123456789"),
 ];
 
-const NO_DIGITS: [char; 5] = ['x', '/', ':', ',', '-'];
+const NO_DIGITS: &[char] = &['x', '/', ':', ',', '-'];
 
 impl Type {
     // Puts one of its numbers: one of the ends, or any of so many digits.
@@ -248,8 +248,8 @@ fn expect_back(rt: &(impl AllocGlobal + Abort), ty: &Type) -> Result<(), Fail> {
     let mut request = 0u64;
     for turn in 0..4 {
         for count in COUNTS {
-            let mut dice = Random::new(0, turn, count);
-            told.put_lists(rt.alloc(), &mut dice, ty, request, count)?;
+            let mut dice = Random::new(0, turn, *count);
+            told.put_lists(rt.alloc(), &mut dice, ty, request, *count)?;
             request = request.wrapping_add(1);
         }
     }
@@ -268,7 +268,7 @@ fn expect_back(rt: &(impl AllocGlobal + Abort), ty: &Type) -> Result<(), Fail> {
 #[test]
 fn numbers_come_back_as_they_were_posted(rt: HostRuntime) -> Result<(), Fail> {
     for ty in TYPES {
-        expect_back(&rt, &ty)?;
+        expect_back(&rt, ty)?;
     }
     Ok(())
 }
@@ -284,10 +284,13 @@ fn script_with(alloc: Global, name: &str, word: &str, place: u64) -> Result<Stri
     Ok(script)
 }
 
+// Where the word stands among the nine: first, in the midst, and last.
+const PLACES: &[u64] = &[0, 4, 8];
+
 // The script ends at the word, whichever place it has among others.
 fn expect_refused(rt: &(impl AllocGlobal + Abort), name: &str, word: &str) -> Result<(), Fail> {
-    for place in [0, 4, 8] {
-        let script = script_with(rt.alloc(), name, word, place)?;
+    for place in PLACES {
+        let script = script_with(rt.alloc(), name, word, *place)?;
         let case = Case {
             script: script.as_bytes(),
             replies: b"refused NoSuchRequest\n",
@@ -313,8 +316,8 @@ fn spoilt(alloc: Global, word: &str, place: usize, byte: char) -> Result<String,
 fn expect_digits(rt: &(impl AllocGlobal + Abort), name: &str, word: &str) -> Result<(), Fail> {
     for place in 0..word.len() {
         for byte in NO_DIGITS {
-            if place != 0 || byte != '-' || name == "uint64" {
-                let bad = spoilt(rt.alloc(), word, place, byte)?;
+            if place != 0 || *byte != '-' || name == "uint64" {
+                let bad = spoilt(rt.alloc(), word, place, *byte)?;
                 expect_refused(rt, name, &bad)?;
             }
         }

@@ -6,7 +6,7 @@ ghost use Rattle.hall_core.specs.Halls.{view_of};
 ghost use Rattle.hall_core.specs.Looks.{IsDue};
 
 use crate::calls::Doing::{Cast, Sum, Take, Trade};
-use crate::calls::{FRIENDS, Line, RIVALS, SUM_OF_FOUR, answers, at_a_hall, runs};
+use crate::calls::{FRIENDS, Line, RIVALS, SUM_OF_FOUR, answers, answers_all, at_a_hall, runs};
 use crate::worlds::{AT_ONCE, Looked, both};
 use hall_core::{Due, Hall, Open, Refusal, Reply, finish};
 use std::alloc::Global;
@@ -113,6 +113,12 @@ fn all_but_one_take(alloc: Global, hall: &mut Hall, request: u64) -> Result<bool
     Ok(true)
 }
 
+const TAKEN_AT_LAST: &[Line] = &[
+    (0, Take(2), "delivered none"),
+    (0, Take(0), "delivered none"),
+    (0, Take(1), "delivered none"),
+];
+
 /// Process 0 alone has not taken three outcomes. It takes the last first, and then the first.
 fn waits_for_one(alloc: Global, hall: &mut Hall) -> Result<bool, Fail> {
     for request in 0..3 {
@@ -120,12 +126,7 @@ fn waits_for_one(alloc: Global, hall: &mut Hall) -> Result<bool, Fail> {
             return Ok(false);
         }
     }
-    for request in [2, 0, 1] {
-        if !answers(alloc, hall, &(0, Take(request), "delivered none"))? {
-            return Ok(false);
-        }
-    }
-    Ok(true)
+    answers_all(alloc, hall, TAKEN_AT_LAST)
 }
 
 #[test]
@@ -165,10 +166,10 @@ fn is_closed(hall: &mut Hall, process: u32, others: u64) -> bool {
 
 /// Whether a look finds nothing but that there is no such request.
 fn is_unknown(hall: &Hall, process: u32) -> bool {
-    matches!(
-        hall.look(process, 0),
-        Due::Told(Reply::Refused(Refusal::NoSuchRequest))
-    )
+    let due = hall.look(process, 0);
+    let is_unknown = matches!(&due, Due::Told(Reply::Refused(Refusal::NoSuchRequest)));
+    drop(due);
+    is_unknown
 }
 
 /// Whether two requests for a broadcast are closed, once each, and the others are told it still.
@@ -244,10 +245,10 @@ fn pages_at_a_hall<R: Files + AllocGlobal + Abort>(rt: &R, policy: &str) -> Resu
 /// 16, and the numbers of those that are barred 8, each 300 times.
 #[test]
 fn memory_is_given_back(rt: HostRuntime) -> Result<(), Fail> {
-    for policy in [FRIENDS, RIVALS] {
-        let more = pages_at_a_hall(&rt, policy)?;
-        assert!(&rt; more < 1024, "{more} pages more");
-    }
+    let granted = pages_at_a_hall(&rt, FRIENDS)?;
+    assert!(&rt; granted < 1024, "{granted} pages more");
+    let denied = pages_at_a_hall(&rt, RIVALS)?;
+    assert!(&rt; denied < 1024, "{denied} pages more");
     Ok(())
 }
 

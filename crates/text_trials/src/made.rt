@@ -51,7 +51,7 @@ enum Form {
     Bare,
 }
 
-const KINDS: [(&str, Form); 10] = [
+const KINDS: &[(&str, Form)] = &[
     ("bcast", Form::FromRoot),
     ("bcast", Form::FromRoot),
     ("gather", Form::ToRoot),
@@ -89,7 +89,7 @@ post 3 0 split 0 -3
 ";
 
 // What is asked and refused in between.
-const OTHERS: [&str; 6] = [
+const OTHERS: &[&str] = &[
     "info 0 1\n",
     "info 1 4\n",
     "post 0 0 bcast 9 int64 1\n",
@@ -129,7 +129,7 @@ fn count_of(dice: &mut Random, words: &str, is_long: bool) -> u64 {
 fn collective_of(seed: u64, number: u64) -> Collective {
     let mut dice = Random::new(0, seed, number);
     let group = dice.pick(&[0, 0, 0, 0, 0, 1, 2, 3, 4]);
-    let (words, form) = dice.pick(&KINDS);
+    let (words, form) = dice.pick(KINDS);
     let is_long = dice.is_one_in(10);
     Collective {
         group,
@@ -275,7 +275,7 @@ impl Made {
             self.take(process, self.request(number).saturating_sub(back))?;
         }
         if self.dice.is_one_in(32) {
-            let line = self.dice.pick(&OTHERS);
+            let line = self.dice.pick(OTHERS);
             self.text.push_str(line)?;
         }
         Ok(())
@@ -393,18 +393,23 @@ fn count_of_replies(replies: &str, prefix: &str) -> usize {
         .count()
 }
 
+// How replies begin of which there are many, and those of which there are none.
+const FREQUENT: &[&str] = &[
+    "delivered [",
+    "delivered none",
+    "pending",
+    "posted",
+    "refused NoSuchRequest",
+];
+
+const ABSENT: &[&str] = &["refused Mismatch", "refused TooManyRequests"];
+
 // The script had replies of all kinds, and none that puts the posts of its processes out of step.
 fn expect_rich(rt: &impl Abort, replies: &str) {
-    for prefix in [
-        "delivered [",
-        "delivered none",
-        "pending",
-        "posted",
-        "refused NoSuchRequest",
-    ] {
+    for prefix in FREQUENT {
         assert!(rt; 200 < count_of_replies(replies, prefix), "{prefix}");
     }
-    for prefix in ["refused Mismatch", "refused TooManyRequests"] {
+    for prefix in ABSENT {
         assert!(rt; count_of_replies(replies, prefix) == 0, "{prefix}");
     }
     assert!(rt; 10 <= replies.lines().filter(|line| line.len() >= 1000).count());

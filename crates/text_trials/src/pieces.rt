@@ -70,40 +70,65 @@ fn whole(alloc: Global, policy: &Policy, text: &[u8]) -> Result<u64, AuditFault>
     }
 }
 
+/// How many bytes come at a time.
+const SIZES: &[usize] = &[1, 3, 50, 5000];
+
 fn compare(rt: &(impl AllocGlobal + Abort), policy: &Policy, text: &[u8]) {
     let said = whole(rt.alloc(), policy, text);
-    for size in [1, 3, 50, 5000] {
-        let mut source = Pieces { rest: text, size };
+    for size in SIZES {
+        let mut source = Pieces {
+            rest: text,
+            size: *size,
+        };
         let audited = audit_source(rt.alloc(), policy, &mut source);
         assert!(rt; audited == said);
     }
 }
 
+/// What stands in the place of a byte.
+const BYTES: &[u8] = b"\n102x ";
+
+/// The text with each byte in each place, and with one byte more.
+fn compare_spoilt(
+    rt: &(impl AllocGlobal + Abort),
+    policy: &Policy,
+    text: &[u8],
+) -> Result<(), Fail> {
+    let mut spoilt = Vec::new(rt.alloc());
+    for byte in BYTES {
+        for at in 0..text.len() {
+            spoilt.clear();
+            spoilt.extend_from_slice(text)?;
+            spoilt[at] = *byte;
+            compare(rt, policy, &spoilt);
+        }
+    }
+    spoilt.clear();
+    spoilt.extend_from_slice(text)?;
+    spoilt.push(b'x')?;
+    compare(rt, policy, &spoilt);
+    Ok(())
+}
+
+/// The text, each of its beginnings, and the spoilt ones.
+fn compare_all(rt: &(impl AllocGlobal + Abort), policy: &Policy, text: &[u8]) -> Result<(), Fail> {
+    assert!(rt; whole(rt.alloc(), policy, text) == Ok(5));
+    for end in 0..text.len() {
+        compare(rt, policy, &text[..end]);
+    }
+    compare(rt, policy, text);
+    compare_spoilt(rt, policy, text)
+}
+
+// The policy is handed to `drop` before the way out: where it goes out of scope by itself it is taken
+// apart in the function's own proof, half a minute for each way out.
 #[test]
 fn pieces_say_what_the_whole_says(rt: HostRuntime) -> Result<(), Fail> {
     let policy = match read_policy(rt.alloc(), POLICY.as_bytes()) {
         Ok(policy) => policy,
         Err(_) => panic!(&rt; "the policy is not read"),
     };
-    let text = BOOK.as_bytes();
-    assert!(&rt; whole(rt.alloc(), &policy, text) == Ok(5));
-    for end in 0..text.len() {
-        compare(&rt, &policy, &text[..end]);
-    }
-    compare(&rt, &policy, text);
-    let mut spoilt = Vec::new(rt.alloc());
-    for byte in [b'\n', b'1', b'0', b'2', b'x', b' '] {
-        for at in 0..text.len() {
-            spoilt.clear();
-            spoilt.extend_from_slice(text)?;
-            spoilt[at] = byte;
-            compare(&rt, &policy, &spoilt);
-        }
-    }
-    spoilt.clear();
-    spoilt.extend_from_slice(text)?;
-    spoilt.push(b'x')?;
-    compare(&rt, &policy, &spoilt);
+    let ended = compare_all(&rt, &policy, BOOK.as_bytes());
     drop(policy);
-    Ok(())
+    ended
 }

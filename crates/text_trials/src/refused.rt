@@ -21,7 +21,9 @@ use wall_labels::Op;
 use wall_labels::memory::{ExpectingSink, Fuse};
 use wall_policy::{Policy, PolicyFault, read_policy};
 
-/// What is answered, or what is answered to the same once more where this fault was.
+/// What is answered, or what is answered to the same once more where this fault was. (For what is not
+/// wide: what is has a `match` of its own for the second answer, since two wide values that meet behind
+/// a `match` cost the prover dear.)
 macro_rules! again {
     ($asked:expr, $fault:pat) => {
         match $asked {
@@ -31,22 +33,30 @@ macro_rules! again {
     };
 }
 
+/// What was answered at last, where it is what was asked for.
+fn made<T: Drop, E: Drop>(rt: &impl Abort, answer: Result<T, E>, words: &str) -> T {
+    match answer {
+        Ok(made) => made,
+        Err(_) => panic!(rt; "{words}"),
+    }
+}
+
 /// The policy of a text that has one.
 fn policy_of(rt: &(impl AllocGlobal + Abort), text: &str) -> Policy {
-    match again!(
-        read_policy(rt.alloc(), text.as_bytes()),
-        PolicyFault::NoMemory
-    ) {
+    match read_policy(rt.alloc(), text.as_bytes()) {
         Ok(policy) => policy,
+        Err(PolicyFault::NoMemory) => {
+            made(rt, read_policy(rt.alloc(), text.as_bytes()), "no policy")
+        }
         Err(_) => panic!(rt; "no policy"),
     }
 }
 
 /// A hall under it.
 fn hall_of(rt: &(impl AllocGlobal + Abort), text: &str) -> Hall {
-    match again!(Hall::open(rt.alloc(), policy_of(rt, text)), _) {
+    match Hall::open(rt.alloc(), policy_of(rt, text)) {
         Ok(hall) => hall,
-        Err(_) => panic!(rt; "no hall"),
+        Err(_) => made(rt, Hall::open(rt.alloc(), policy_of(rt, text)), "no hall"),
     }
 }
 
@@ -54,10 +64,17 @@ fn hall_of(rt: &(impl AllocGlobal + Abort), text: &str) -> Hall {
 fn call_of(rt: &(impl AllocGlobal + Abort), policy: &Policy, line: &str) -> Call
     ensures { HasKnownLabel policy.now result.act }
 {
-    match again!(
-        read_call(rt.alloc(), policy, line.as_bytes()),
-        LineFault::NoMemory
-    ) {
+    match read_call(rt.alloc(), policy, line.as_bytes()) {
+        Ok(call) => call,
+        Err(LineFault::NoMemory) => call_at_last(rt, policy, line),
+        Err(_) => panic!(rt; "no call: {line}"),
+    }
+}
+
+fn call_at_last(rt: &(impl AllocGlobal + Abort), policy: &Policy, line: &str) -> Call
+    ensures { HasKnownLabel policy.now result.act }
+{
+    match read_call(rt.alloc(), policy, line.as_bytes()) {
         Ok(call) => call,
         Err(_) => panic!(rt; "no call: {line}"),
     }
@@ -160,10 +177,12 @@ fn ask_for_group(
     }
 }
 
+/// What they are told who ask for each of the groups.
+const CREATED: &[&str] = &["posted 0", "posted 1", "posted 2", "posted 3", "posted 4"];
+
 /// All four ask for each of the groups.
 fn make_groups(rt: &(impl AllocGlobal + Abort), hall: &mut Hall) {
-    let said = ["posted 0", "posted 1", "posted 2", "posted 3", "posted 4"];
-    for (group, said) in GROUPS.iter().zip(said) {
+    for (group, said) in GROUPS.iter().zip(CREATED) {
         for process in 0..4 {
             ask_for_group(rt, hall, process, group, said);
         }
@@ -330,10 +349,17 @@ fn grids_are_made(rt: HostRuntime) {
 fn book_of(rt: &(impl AllocGlobal + Abort), policy: &Policy, text: &str) -> Book
     ensures { All (IsKnownEntry policy.now) result.list }
 {
-    match again!(
-        read_book(rt.alloc(), policy, text.as_bytes()),
-        ReadFault::NoMemory
-    ) {
+    match read_book(rt.alloc(), policy, text.as_bytes()) {
+        Ok(book) => book,
+        Err(ReadFault::NoMemory) => book_at_last(rt, policy, text),
+        Err(_) => panic!(rt; "no book"),
+    }
+}
+
+fn book_at_last(rt: &(impl AllocGlobal + Abort), policy: &Policy, text: &str) -> Book
+    ensures { All (IsKnownEntry policy.now) result.list }
+{
+    match read_book(rt.alloc(), policy, text.as_bytes()) {
         Ok(book) => book,
         Err(_) => panic!(rt; "no book"),
     }

@@ -10,7 +10,7 @@ pub(crate) const BETA: u32 = 1;
 pub(crate) const CRUDE: u32 = 2;
 
 /// The groups of communicators 1 to 5, which all four processes ask for in turn.
-pub(crate) const GROUPS: [&str; 5] = ["0,2,3", "0,1,3", "0,3", "1,3", "2,3"];
+pub(crate) const GROUPS: &[&str] = &["0,2,3", "0,1,3", "0,3", "1,3", "2,3"];
 
 /// A policy, and whether its first four processes make the groups first; then each call with its
 /// reply; and all pairs of a process and a dataset that it has had access to at the end.

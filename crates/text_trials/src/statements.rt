@@ -11,9 +11,17 @@ use std::test::Fail;
 // The next statement; out of memory where a growth was refused and the words have no fault.
 fn read(rt: &impl AllocGlobal, words: &mut Parts) -> Result<(Signature, Own), LineFault> {
     let mut memory = Memory::new(rt.alloc());
-    let statement = next_statement(&mut memory, words)?;
-    memory.end()?;
-    Ok(statement)
+    match next_statement(&mut memory, words) {
+        Ok((sig, own)) => match memory.end() {
+            Ok(()) => Ok((sig, own)),
+            Err(refused) => {
+                drop(sig);
+                drop(own);
+                Err(LineFault::from(refused))
+            }
+        },
+        Err(fault) => Err(fault),
+    }
 }
 
 // Whether the line is read whole, and written again as it was.
@@ -126,22 +134,26 @@ pub(crate) fn listing(
     Ok(line)
 }
 
+const LENGTHS: &[u32] = &[256, 257, 5000];
+
 // Ranks, counts and flags: as many of each as a communicator has members at most, one more, and
 // far more, which it is the rules' part to refuse.
 #[test]
 fn long_lists_are_read_and_written(rt: HostRuntime) -> Result<(), Fail> {
     for (prefix, most) in LONG {
-        for numbers in [256, 257, 5000] {
-            let line = listing(rt.alloc(), prefix, numbers, *most)?;
+        for numbers in LENGTHS {
+            let line = listing(rt.alloc(), prefix, *numbers, *most)?;
             assert!(&rt; is_spelled(&rt, &line), "{prefix}");
         }
     }
     Ok(())
 }
 
+const MISSPELT: &[&str] = &["", "barrier ", "create 0,", "split 0 +1", "bcast 00 int8 1"];
+
 #[test]
 fn other_spellings_are_noticed(rt: HostRuntime) {
-    for line in ["", "barrier ", "create 0,", "split 0 +1", "bcast 00 int8 1"] {
+    for line in MISSPELT {
         assert!(&rt; !is_spelled(&rt, line), "{line}");
     }
 }
@@ -198,7 +210,10 @@ fn room_of(sig: Signature) -> Option<usize> {
             let room = dims.into_vec().capacity();
             Some(periods.into_vec().capacity().max(room))
         }
-        _ => None,
+        other => {
+            drop(other);
+            None
+        }
     }
 }
 

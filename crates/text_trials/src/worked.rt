@@ -214,12 +214,15 @@ fn requests_that_nobody_made_are_refused(rt: HostRuntime) -> Result<(), Fail> {
     expect_run(&rt, &NO_REQUESTS)
 }
 
+// A pair too few, one too many, and another one.
+const NOT_HELD: &[&[(u32, u32)]] = &[&[], &[(0, ALPHA), (0, BETA)], &[(0, ALPHA), (3, CRUDE)]];
+
 // These tests notice another reply, and a pair too few and too many.
 #[test]
 fn other_runs_are_noticed(rt: HostRuntime) -> Result<(), Fail> {
     let mut texts = texts_of(rt.alloc(), &NO_REQUESTS)?;
     assert!(&rt; is_told(&rt, ALONE, &texts, NO_REQUESTS.held));
-    for held in [&[][..], &[(0, ALPHA), (0, BETA)], &[(0, ALPHA), (3, CRUDE)]] {
+    for held in NOT_HELD {
         assert!(&rt; !is_told(&rt, ALONE, &texts, held));
     }
     texts.said.push_str("pending\n")?;
