@@ -85,9 +85,14 @@ def Init() -> None:
     if not folder or not name:
         raise Exception(ERR_OTHER, "CONSORTIUM_DIR and CONSORTIUM_PROCESS say who this process is")
     try:
-        _process = Process(folder, name, os.environ.get("CONSORTIUM_LABEL") or None)
+        process = Process(folder, name, os.environ.get("CONSORTIUM_LABEL") or None, resume=True)
     except (Gone, OSError) as fault:
         raise Exception(ERR_OTHER, str(fault)) from None
+    if process.posts:
+        process.close()
+        raise Exception(ERR_OTHER, "an earlier program of this process has posted: one that goes on "
+                                   "where it died takes consortium.Process")
+    _process = process
     thin = _process.world
     COMM_WORLD._thin, COMM_WORLD._members, COMM_WORLD._me = thin, list(range(thin.size)), thin.rank
     COMM_SELF._thin, COMM_SELF._members, COMM_SELF._me = _Alone(_process), [thin.rank], thin.rank

@@ -21,12 +21,13 @@ class Process:
 
     `label` is that of all its posts that say no other. It waits until the server has opened the
     pipes, for at most `timeout` seconds where that is given, and then raises `Gone`. Used in a
-    `with` statement it leaves at the end.
+    `with` statement it leaves at the end; where an exception ends that, it is gone, and another
+    program may go on.
 
     With `resume` it goes on where an earlier program of this process has died: `resumed` has its
     requests that are not taken, each of which gives its delivery as a list of blocks, and `posts` is
-    the number of its next one. What that program was told and did not read is lost. (Without it,
-    what that one did not read would be taken for answers to this one's lines.)
+    the number that the next one had then. What that program was told and did not read is lost.
+    (Without it, what that one did not read would be taken for answers to this one's lines.)
 
     One exchange goes at a time: threads that share a process take turns, and who waits keeps the
     others out. An exchange that was interrupted (by ^C, or a timeout) is ended by the next: its
@@ -113,6 +114,9 @@ class Process:
         return self
 
     def __exit__(self, kind: Any, value: Any, trace: Any) -> None:
+        if kind is not None:
+            self.close()
+            return
         try:
             self.leave()
         except Gone:

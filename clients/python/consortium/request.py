@@ -47,15 +47,15 @@ class Request:
     def wait(self, timeout: Optional[float] = None) -> Any:
         """The outcome, as soon as all members have posted. The server sleeps meanwhile.
 
-        `Stuck` is raised where every other process has left or waits too, and `TimeoutError` where
-        it takes longer than `timeout` seconds: the server goes on waiting, and a later call of this
-        process first waits for its answer.
+        `Stuck` is raised where every other process has left, is gone or waits too, and `TimeoutError`
+        where it takes longer than `timeout` seconds: the server goes on waiting, and a later call of
+        this process first waits for its answer.
 
         >>> world.Iallreduce([7], op="sum").wait(timeout=60)
         [7]
         """
         if not self._is_settled("wait", timeout):
-            raise Stuck(f"request {self.number}: every other process has left or waits too")
+            raise Stuck(f"request {self.number}: every other process has left, is gone or waits too")
         return self._told()
 
     def _told(self) -> Any:
