@@ -6,6 +6,7 @@
  *     other     the other process of these three
  *     again N   goes on behind whoever was there, up to N sums, and stays
  *     last N    the same, and ends
+ *     any       goes on with two requests, of which the second is done first
  *     steady N  the other process of these two */
 #include <mpi.h>
 #include <signal.h>
@@ -177,6 +178,21 @@ static int sums_on(MPI_Count rounds, int stays) {
     return wrong;
 }
 
+static int any(void) {
+    MPI_Request requests[2];
+    MPI_Count number;
+    int index;
+    MPIX_Resume();
+    begin();
+    for (int i = 0; i < 2; i++) {
+        CHECK(MPIX_Resumed_request(i, &number, NULL, 0, MPI_INT, &requests[i]) == MPI_SUCCESS);
+    }
+    /* (They may be of different communicators.) */
+    CHECK(MPI_Waitany(2, requests, &index, MPI_STATUS_IGNORE) == MPI_SUCCESS && index == 1);
+    MPI_Finalize();
+    return checks_end();
+}
+
 int main(int count, char **words) {
     const char *word = count > 1 ? words[1] : "";
     MPI_Count rounds = count > 2 ? atoll(words[2]) : 0;
@@ -188,6 +204,9 @@ int main(int count, char **words) {
     }
     if (strcmp(word, "other") == 0) {
         return other();
+    }
+    if (strcmp(word, "any") == 0) {
+        return any();
     }
     if (strcmp(word, "plain") == 0) {
         begin();
