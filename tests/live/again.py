@@ -3,16 +3,22 @@ while others wait, and while an operator looks on; and what they are told of the
 import fcntl
 import os
 import random
+import select
+import shutil
+import signal
 import subprocess
 import time
 
 import live
-from back import goes_round, resumed, steady
+from back import goes_round, gone, resumed, steady
 from books import bounded
 from chains import Years
-from live import Client, House, Raw, Wrong, all_results, consortium, die_with_parent, neutral
-from live import started, until, want
+from live import Client, House, Late, Raw, Wrong, all_results, consortium, die_with_parent
+from live import neutral, started, until, want
 from operators import asked, left, of, the_end
+
+# Reached through the path of `live`.
+from consortium.pipes import Pipes
 
 # Users that own nothing: of the server, and of two firms, each with a group of its own.
 SERVER, FIRMS = 65_431, (65_432, 65_433)
@@ -194,36 +200,193 @@ def who_comes_back_in_a_wait(given):
     house.audit()
 
 
+def half_a_reply_is_dropped(given):
+    """Who opens the pair before another program dies reads on in the middle of its reply, behind half a
+    line that it wrote: neither is taken for this one's."""
+    house = House(given.program, neutral(2)).start()
+    other, raw = Raw(house, "p1"), Raw(house, "p0")
+    want(other.ask("post 0 split undefined 0"), "posted 0", "the other's split")
+    want(raw.ask("post 0 split 0 0"), "posted 0", "its split")
+    want(raw.ask("take 0"), "comm 1 rank 0 size 1", "its communicator")
+    numbers = " ".join(["7"] * 30_000)
+    want(raw.ask(f"post 1 allgatherv int64 as public {numbers}"), "posted 1", "a post")
+    raw.send(b"take 1\ntake 0")
+    want(os.read(raw.replies, 1000)[:13], b"delivered [7 ", "a part of the reply")
+    process = resumed(house, "p0")
+    raw.close()
+    want((process.resumed, process.posts, process.world.rank), ([], 2, 0), "what it finds")
+    process.leave()
+    want(other.ask("leave"), "left", "the other's leave")
+    house.end()
+    want([line for line in house.events() if line.startswith("p0")],
+         ["p0 came", "p0 left after 5 calls: left"], "its events")
+    house.audit()
+
+
+def new_pair(folder):
+    """New pipes of p0 in the place of those that there are, open both ways: calls, and replies."""
+    pair = []
+    for end in ("calls", "replies"):
+        os.mkfifo(folder / "new", 0o600)
+        pair.append(os.open(folder / "new", os.O_RDWR))
+        (folder / "new").rename(folder / f"p0.{end}")
+    return pair
+
+
+def close_pair(pair):
+    for file in pair:
+        os.close(file)
+
+
+def first_lines(calls):
+    """What a client has asked for first."""
+    want(select.select([calls], [], [], 10)[0], [calls], "what a client asks")
+    return os.read(calls, 100)
+
+
+def why_not(folder):
+    """Why the client in Python does not go on."""
+    try:
+        consortium.Process(folder, "p0", timeout=3, resume=True)
+    except consortium.Gone as fault:
+        return fault.cause
+    return None
+
+
+def last_words_to_who_comes_back(_):
+    """Where the session has ended, the client in Python says why, behind what an earlier program did
+    not read, and does not ask again. Each one draws a number of its own."""
+    lines = set()
+    for line, cause in (("left", "left"), ("exhausted", "exhausted"), ("unbooked", "unbooked"),
+                        ("dismissed", "dismissed"), ("ended", "over")):
+        folder = live.a_folder()
+        pair = new_pair(folder)
+        client = Client(why_not, str(folder))
+        lines.add(first_lines(pair[0]))
+        os.write(pair[1], f"7]\nping 1\n{line}\n".encode("ascii"))
+        close_pair(pair)
+        want(client.result(), cause, "why")
+    want((len(lines), {line[:7] for line in lines}), (5, {b"?\nping "}), "what it asks")
+
+
+def finds(folder, inherited):
+    close_pair(inherited)
+    process = consortium.Process(folder, "p0", timeout=10, resume=True)
+    return [request.number for request in process.resumed], process.posts, process.world.size
+
+
+def who_opens_a_pair_that_is_closed(_):
+    """Who opens a pair that is just being closed opens it again, and does not wait for an answer where
+    nobody reads its lines."""
+    folder = live.a_folder()
+    pair = new_pair(folder)
+    client = Client(finds, str(folder), pair)
+    for _ in range(3):
+        first_lines(pair[0])
+        before, pair = pair, new_pair(folder)
+        os.write(before[1], b"posted 3\n")
+        close_pair(before)
+    ping = first_lines(pair[0]).split(b"\n")[1]
+    os.write(pair[1], b"bad BadVerb\n%s\nopen 3 5\nnext 7\ninfo size 2 rank 0\n" % ping)
+    want(client.result(), ([3, 5], 7, 2), "what it finds at last")
+    # (The replies are still open on the other side.)
+    pipes = Pipes(str(folder / "p0"), 10)
+    os.close(pair[0])
+    client = Client(has_no_reader, pipes)
+    until(client.has_ended, "that nobody reads is seen", 10)
+    want(client.result(), "unread", "why")
+    pipes.close()
+    os.close(pair[1])
+
+
+def has_no_reader(pipes):
+    try:
+        pipes.begin_anew(7)
+    except consortium.Gone as fault:
+        return fault.cause
+    return None
+
+
 def who_closes_its_calls_alone(given):
-    """Who closes its calls, and reads on, is answered to the end, and sees that; so the bridge ends
-    where its input does. Another program then goes on."""
+    """Who closes its calls, and reads on, is answered to the end, and sees that, unless it did not run
+    while the pair was closed; so the bridge ends where its input does. Another program goes on."""
     house = House(given.program, neutral(2)).start()
     other = Raw(house, "p1")
+    ends = {by_itself: 0, over_the_bridge: 0}
     for turn in range(5):
-        raw = Raw(house, "p0")
-        client = Client(reads_to_the_end, raw)
-        raw.close()
-        want(client.result(), b"info size 2 rank 0\n" * 3, "all that it was told")
-        gone(house, "p0", 2 * turn + 1)
-        bridge = subprocess.run([live.EXAMPLES / "bridge", house.pipes, "p0"], input=b"info 0\n",
-                                capture_output=True, timeout=60, check=False)
-        want((bridge.returncode, bridge.stdout), (0, b"info size 2 rank 0\n"), "over the bridge")
-        gone(house, "p0", 2 * turn + 2)
+        for number, way in enumerate(ends):
+            told = way(house)
+            want(told in (b"info size 2 rank 0\n", None), True, f"all that it was told: {told}")
+            ends[way] += told is not None
+            gone(house, "p0", 2 * turn + number + 1)
+    want([times >= 3 for times in ends.values()], [True, True], f"ends that were seen: {ends}")
     want(other.ask("leave"), "left", "the other's leave")
     house.end()
     house.audit()
 
 
-def reads_to_the_end(raw):
-    raw.send(b"info 0\n" * 3)
+def by_itself(house):
+    """What a program was told that asks once, and reads to the end; none where that does not come."""
+    client = Client(reads_to_the_end, house)
+    try:
+        until(client.has_ended, "the end", 5)
+    except Late:
+        # (It would take what another is told.)
+        client.kill()
+        return None
+    return client.result()
+
+
+def reads_to_the_end(house):
+    raw = Raw(house, "p0")
+    raw.send(b"info 0\n")
     os.close(raw.calls)
-    raw.calls = -1
     told = b""
     while True:
         more = raw.read()
         if not more:
             return told
         told += more
+
+
+def over_the_bridge(house, environment=None):
+    """The same over the bridge."""
+    bridge = subprocess.Popen([live.EXAMPLES / "bridge", house.pipes, "p0"], stdin=subprocess.PIPE,
+                              stdout=subprocess.PIPE, env=environment, start_new_session=True,
+                              preexec_fn=die_with_parent)
+    live.GROUPS.append(bridge)
+    try:
+        told = bridge.communicate(b"info 0\n", timeout=5)[0]
+    except subprocess.TimeoutExpired:
+        os.killpg(bridge.pid, signal.SIGKILL)
+        bridge.communicate()
+        return None
+    want(bridge.returncode, 0, "how the bridge ends")
+    return told
+
+
+def the_bridge_reads_first(given):
+    """The bridge has opened the replies before anything is called, as slow as it may be: also where the
+    server has them open already, for one that came and did not open the calls."""
+    house = House(given.program, neutral(2)).start()
+    other, raw = Raw(house, "p1"), Raw(house, "p0")
+    raw.close()
+    gone(house, "p0", 1)
+    replies = os.open(house.pipes / "p0.replies", os.O_RDONLY | os.O_NONBLOCK)
+    time.sleep(0.2)
+    os.close(replies)
+    # (What has a file to open is slow.)
+    slow = house.folder / "cat"
+    slow.write_text(f'#!/bin/sh\n[ $# -eq 0 ] || sleep 0.5\nexec {shutil.which("cat")} "$@"\n')
+    slow.chmod(0o755)
+    environment = dict(os.environ, PATH=f"{house.folder}:{os.environ['PATH']}")
+    told = over_the_bridge(house, environment)
+    want(told in (b"info size 2 rank 0\n", None), True, f"what is told over it: {told}")
+    want(gone(house, "p0", 2), 1, "the calls over the bridge")
+    want(house.events()[-1], "p0 gone after 1 calls: end of stream", "why it is gone")
+    want(other.ask("leave"), "left", "the other's leave")
+    house.end()
+    house.audit()
 
 
 class Own:
@@ -302,14 +465,6 @@ def a_sitting(dice, own, raw, length):
     return lines[:whole], got
 
 
-def gone(house, name, times):
-    """After how many calls a process was gone, this many times."""
-    def events():
-        return [line for line in house.events() if line.startswith(f"{name} gone after ")]
-    until(lambda: len(events()) >= times, f"{name} is gone")
-    return int(events()[times - 1].split(" ")[3])
-
-
 def makes(own, made, lines, got):
     """Has the model make so many calls of these lines, and looks at the answers that were read."""
     for number, line in enumerate(lines):
@@ -378,6 +533,7 @@ def as_many_as_may_be_open(given):
     for number in range(256):
         want(raw.ask("post 0 barrier"), f"posted {number}", "a post")
     raw.close()
+    gone(house, "p0", 1)
     raw = Raw(house, "p0")
     want(raw.ask("open"), "open" + "".join(f" {number}" for number in range(256)), "all of them")
     want(raw.ask("post 0 barrier"), "refused TooManyRequests", "one more")
@@ -386,6 +542,7 @@ def as_many_as_may_be_open(given):
     want(raw.ask("take 0"), "delivered none", "the first")
     want(raw.ask("post 0 barrier"), "posted 256", "one more then")
     raw.close()
+    gone(house, "p0", 2)
     raw = Raw(house, "p0")
     want(raw.ask("open"), "open" + "".join(f" {number}" for number in range(1, 257)), "the others")
     want(raw.ask("leave"), "left", "the leave")
@@ -462,6 +619,10 @@ def an_operator_looks_on(given):
     left(house, "p3", 0, "ended")
     want(house.end()[-1], "end 2", "the book")
     want(house.events()[-1], "served 4 calls", "the last event")
+    # (Who is let in only to end has not come.)
+    want([line for line in house.events() if line[:3] in ("p2 ", "p3 ")],
+         ["p2 came", "p2 gone after 1 calls: end of stream", "p2 left after 1 calls: dismissed",
+          "p3 left after 0 calls: ended"], "the events of two of them")
     house.audit()
 
 
@@ -560,6 +721,56 @@ def pipes_that_changed_meanwhile(given):
         want((house.server.returncode, house.complaint()), (3, "not opened: p1\n"), "how it ends")
         house.audit()
         live.clear()
+
+
+def pipes_that_were_elsewhere(given):
+    """As long as a pipe of one that is gone is not where it was, nobody can let it in: neither the
+    operator, nor the end of the run, which tries again until it can."""
+    house = of(given, 3)
+    raws = [Raw(house, name) for name in house.names]
+    for number in (1, 2):
+        raws[number].close()
+        gone(house, f"p{number}", 1)
+    there = [(house.pipes / f"p{number}.replies", house.folder / f"{number}") for number in (1, 2)]
+    # (behind the closing of the pair: from then on it is waited at the pipe itself)
+    time.sleep(0.2)
+    for pipe, elsewhere in there:
+        pipe.rename(elsewhere)
+    want(asked(house, "dismiss p1"), ["refused NotWoken"], "a dismissal")
+    want(asked(house, "status")[1], "p1 gone after 0 calls: dismissed", "who is to be let in")
+    there[0][1].rename(there[0][0])
+    want(asked(house, "dismiss p1"), ["done"], "the dismissal once more")
+    left(house, "p1", 0, "dismissed")
+    raws[0].close()
+    left(house, "p0", 0, "end of stream")
+    time.sleep(0.3)
+    want(house.server.poll(), None, "a server with one that cannot be let in")
+    there[1][1].rename(there[1][0])
+    house.end()
+    want(house.events()[-2:], ["p2 left after 0 calls: end of stream", "served 0 calls"], "the end")
+
+
+def dismissed_at_changed_pipes(given):
+    """Who is dismissed while its pipes are not as they must be has left once: whoever goes behind that
+    is gone, and comes back, as long as another one is here."""
+    house = of(given, 3)
+    stays, goes, raw = (Raw(house, name) for name in house.names)
+    for one in (goes, raw):
+        want(one.ask("ping 1"), "ping 1", "who is here")
+    raw.close()
+    gone(house, "p2", 1)
+    os.chmod(house.pipes / "p2.replies", 0o606)
+    # (One that looks wrong wakes nobody for certain: it is asked again.)
+    until(lambda: asked(house, "dismiss p2") == ["refused HasLeft"], "the dismissal")
+    left(house, "p2", 0, "open to others")
+    goes.close()
+    gone(house, "p1", 1)
+    goes = Raw(house, "p1")
+    for one in (goes, stays):
+        want(one.ask("leave"), "left", "a leave")
+    until(lambda: house.server.poll() is not None, "the server ends")
+    want((house.server.returncode, house.complaint()), (3, "not opened: p2\n"), "how it ends")
+    house.audit()
 
 
 def comes_back_to_a_lost_book(given):
@@ -772,7 +983,9 @@ def killed_servers_after_books(given):
 
 
 TESTS = [users_come_back_to_their_own, waits_outlast_a_death, dies_in_a_wait,
-         who_comes_back_in_a_wait, who_closes_its_calls_alone, own_requests, as_many_as_may_be_open,
-         lines_that_ask_wrongly, an_operator_looks_on, ends_among_many, many_that_come_and_go,
-         pipes_that_changed_meanwhile, comes_back_to_a_lost_book,
+         who_comes_back_in_a_wait, last_words_to_who_comes_back, who_opens_a_pair_that_is_closed,
+         who_closes_its_calls_alone, the_bridge_reads_first, own_requests, as_many_as_may_be_open,
+         half_a_reply_is_dropped, lines_that_ask_wrongly, an_operator_looks_on, ends_among_many,
+         many_that_come_and_go, pipes_that_changed_meanwhile, pipes_that_were_elsewhere,
+         dismissed_at_changed_pipes, comes_back_to_a_lost_book,
          killed_servers_of_a_chain, killed_servers_after_books]

@@ -11,6 +11,15 @@ def resumed(house, name):
     return consortium.Process(str(house.pipes), name, label="public", timeout=60, resume=True)
 
 
+def gone(house, name, times):
+    """After how many calls a process was gone, this many times. From then on the pair is closed, and
+    who opens it opens it anew."""
+    def events():
+        return [line for line in house.events() if line.startswith(f"{name} gone after ")]
+    until(lambda: len(events()) >= times, f"{name} is gone")
+    return int(events()[times - 1].split(" ")[3])
+
+
 def a_client_comes_back(given):
     """What was not finished is dropped, requests stand, and events and the book say what was."""
     house = House(given.program, neutral(2)).start()
@@ -46,6 +55,31 @@ def a_client_comes_back(given):
     house.audit()
 
 
+def an_exception_is_no_leave(given):
+    """A `with` statement that an exception ends leaves the process to another program, which has its
+    requests, and finds its communicators by their numbers."""
+    house = House(given.program, neutral(2)).start()
+    other = Raw(house, "p1")
+    want(other.ask("post 0 split undefined 0"), "posted 0", "the other's split")
+    try:
+        with house.connect("p0") as process:
+            want(process.world.Isplit(color=1).wait(timeout=60).number, 1, "its communicator")
+            process.world.Ibarrier()
+            raise Wrong("on purpose")
+    except Wrong:
+        pass
+    gone(house, "p0", 1)
+    with resumed(house, "p0") as process:
+        want([request.number for request in process.resumed], [1], "what is open")
+        words = process.ask("info 1").split()
+        alone = consortium.Comm(process, 1, int(words[4]), int(words[2]))
+        want((alone.size, alone.Iallreduce([7], op="sum").wait(timeout=60)), (1, [7]), "a sum alone")
+    want(other.ask("leave"), "left", "the other's leave")
+    house.end()
+    want(house.events()[-3:-2], ["p0 left after 8 calls: left"], "its last event")
+    house.audit()
+
+
 def waits_count_who_is_gone_as_left(given):
     """A wait is answered `pending` as soon as the other is gone, and sleeps again when it is back."""
     house = House(given.program, neutral(2)).start()
@@ -55,6 +89,7 @@ def waits_count_who_is_gone_as_left(given):
     first.close()
     want(other.line(), "pending", "the wait of who is alone")
     want(other.ask("wait 0"), "pending", "and again")
+    gone(house, "p0", 1)
     first = Raw(house, "p0")
     want(first.ask("info 0"), "info size 2 rank 0", "who is back")
     other.send(b"wait 0\n")
@@ -95,10 +130,11 @@ def calls_are_counted_over_sittings(given):
     house.words += ["--calls", "3"]
     house.start()
     other = Raw(house, "p1")
-    for _ in range(2):
+    for turn in (1, 2):
         raw = Raw(house, "p0")
         want(raw.ask("info 0"), "info size 2 rank 0", "a call")
         raw.close()
+        want(gone(house, "p0", turn), turn, "the calls of all its programs")
     raw = Raw(house, "p0")
     want(raw.ask("info 0"), "info size 2 rank 0", "the third call")
     want(raw.ask("info 0"), "exhausted", "the fourth")
@@ -187,6 +223,6 @@ def a_client_is_killed_again_and_again(given):
     want(len(settled), rounds, "instances that came out")
 
 
-TESTS = [a_client_comes_back, waits_count_who_is_gone_as_left, who_left_does_not_come_back,
+TESTS = [a_client_comes_back, an_exception_is_no_leave, waits_count_who_is_gone_as_left, who_left_does_not_come_back,
          calls_are_counted_over_sittings, what_was_not_read_is_skipped,
          a_client_is_killed_again_and_again]

@@ -7,7 +7,7 @@ import time
 from array import array
 
 from live import consortium
-from live import Client, House, all_results, neutral, want
+from live import Client, House, Raw, all_results, neutral, want
 
 
 def raised(kind, call):
@@ -170,6 +170,32 @@ def denials_of_mpi4py(given):
     house.end()
 
 
+def has_begun(house):
+    """Whether a program of mpi4py's calls begins."""
+    os.environ.update(CONSORTIUM_DIR=str(house.pipes), CONSORTIUM_PROCESS="p0")
+    from consortium import MPI
+
+    try:
+        MPI.Init()
+    except MPI.Exception as fault:
+        want(fault.Get_error_class(), MPI.ERR_OTHER, "the class")
+    return MPI.Is_initialized()
+
+
+def second_programs_of_mpi4py(given):
+    """A program of mpi4py's calls does not begin as if there had been nobody where an earlier one of
+    its process has posted. What that one did not read is not taken for its answers."""
+    for lines, begins in ((b"info 0\ninfo 7\ninfo 0\n", True), (b"post 0 barrier\ninf", False)):
+        house = House(given.program, neutral(2)).start()
+        other, raw = Raw(house, "p1"), Raw(house, "p0")
+        raw.send(lines)
+        raw.close()
+        want(Client(has_begun, house).result(), begins, "whether it begins")
+        want(other.ask("leave"), "left", "the other's leave")
+        house.end()
+        house.audit()
+
+
 def a_long_rank(house, name, label):
     """What one of three ranks gets of arrays that are longer than a post."""
     os.environ.update(CONSORTIUM_DIR=str(house.pipes), CONSORTIUM_PROCESS=name, CONSORTIUM_LABEL=label)
@@ -261,5 +287,6 @@ def members_of_a_split(given):
          "a split of rivals")
 
 
-TESTS = [programs_of_mpi4py, denials_of_mpi4py, long_arrays_are_cut, members_of_a_split, errors_can_be_sent,
-         labels_bring_no_elements, arrays_are_elements, waits_are_interrupted, threads_take_turns]
+TESTS = [programs_of_mpi4py, denials_of_mpi4py, second_programs_of_mpi4py, long_arrays_are_cut,
+         members_of_a_split, errors_can_be_sent, labels_bring_no_elements, arrays_are_elements,
+         waits_are_interrupted, threads_take_turns]
